@@ -53,28 +53,28 @@
  * recurses. Pages are touched in order, so a stack that is too small ends at
  * its guard page. These figures are for x86-64; docs/BOXES.md has the others.
  *
- *     fix             22,784
- *     position        22,784
- *     displacement    18,176
- *     between         17,920
- *     city            18,176
- *     rated           17,920
- *     line            24,832
- *     records         24,320
+ *     fix             20,224
+ *     position        20,224
+ *     displacement    18,432
+ *     between         18,432
+ *     city            18,432
+ *     rated           18,432
+ *     line            25,088
+ *     records         28,416
  *     read_records       256
  *     write_records      256
- *     add_epoch       18,688
+ *     add_epoch       26,368
  *     query            1,024
  *     queries          1,024
  *     forget             512
  *     forms              512
  *     widen_bands        256
- *     smooth             512
+ *     smooth             768
  *     times              256
  *     trip               256
  *     mileage            256
  *     north_east_down    256
- *     trip_displacement 18,176
+ *     trip_displacement 18,432
  *     round            8,960
  *     centre             768
  *     geometry           256

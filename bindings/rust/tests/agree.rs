@@ -209,7 +209,7 @@ fn sys_and_rattle_agree() {
 fn refusals_and_rattle_agree() {
     let text = fs::read_to_string(root().join("crates/numeric/src/refusal.rt")).unwrap();
     let named = |line: &str| {
-        let (name, number) = line.trim().strip_prefix("Refusal::")?.split_once(" => ")?;
+        let (name, number) = line.strip_prefix("    ")?.split_once(" = ")?;
         Some((
             name.to_string(),
             number.trim_end_matches(',').parse::<u8>().ok()?,

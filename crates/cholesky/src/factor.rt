@@ -1,33 +1,15 @@
 // The Cholesky factor of a matrix of nine rows, and the solution by it: matrix.rs, `Cholesky::new` and its `solve`.
+ghost use Rattle.numeric.specs.Refusal.{answer_number};
 ghost use Rattle.std.specs.Prelude.{◌≡◌, ◌-◌, ◌≤◌, ◌<◌, T, replicate};
 ghost use Rattle.std.specs.Float.{binary64};
 ghost use Rattle.std.specs.Float.Ieee.{fits};
 ghost use Rattle.cholesky.specs.Factor.{zeros, is_pivot, forward_to, back_to, solution_of, at, Unused, UnusedPlaces};
 ghost use Rattle.cholesky.specs.Steps.{sum_of, filled, ones_marked, FactoredUsed};
-ghost use Rattle.cholesky.specs.Answer.{factoring_number, FactorPromised};
+ghost use Rattle.cholesky.specs.Answer.{FactorPromised};
 
 use numeric::real::is_finite;
 use numeric::refusal::Refusal;
 use root::tangent::{no_tangent, sqrt_near, tangent_at};
-
-// The answer of factoring; the factor itself is written to the lent rows.
-#[derive(Clone, Copy)]
-pub enum Factoring {
-    Refused(Refusal),
-    Done,
-}
-
-impl Factoring {
-    // Returns the number of the answer: 0, or the refusal's.
-    pub fn number(self) -> u8
-        ensures { result ≡ factoring_number self }
-    {
-        match self {
-            Factoring::Refused(r) => r.number(),
-            Factoring::Done => 0,
-        }
-    }
-}
 
 // Checks that a pivot is finite and above 0; a NaN is neither above 0 nor at most the largest number. Compared with infinity instead, the two comparisons
 // compile to a test of bits, which takes more than twice the instructions.
@@ -148,16 +130,16 @@ pub fn factor_used(n: usize, a: &[[f64; 9]; 9], l: &mut [[f64; 9]; 9]) -> bool
 
 // Returns `Done` and writes the factor of a to l, or returns the refusal and leaves l unchanged. Only the lower triangle of a is read.
 // The factor is made in l itself: made beside it and copied at the end, factor and solution together took 7 percent longer.
-pub fn factor(a: [[f64; 9]; 9], l: &mut [[f64; 9]; 9]) -> Factoring
+pub fn factor(a: [[f64; 9]; 9], l: &mut [[f64; 9]; 9]) -> Result<(), Refusal>
     ensures { FactorPromised a result l.old l.new }
 {
     let kept = *l;
     *l = [[0.0; 9]; 9];
     if factor_used(9, &a, l) {
-        Factoring::Done
+        Ok(())
     } else {
         *l = kept;
-        Factoring::Refused(Refusal::FitFailed)
+        Err(Refusal::FitFailed)
     }
 }
 

@@ -2,7 +2,8 @@
 ghost use Rattle.std.specs.Prelude.{◌≡◌};
 ghost use Rattle.clocks.specs.Clocks as spec;
 
-// The slot of each place, and how many constellations have been given.
+// The slot of each place, and how many constellations have been given. A place that has none holds the largest number, since C holds these numbers itself
+// (zaqnuti_clocks_given).
 #[derive(Clone, Copy)]
 pub struct Clocks {
     pub slot: [usize; 8],

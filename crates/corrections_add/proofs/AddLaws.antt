@@ -1,4 +1,7 @@
 -- The tests before samples are added, way by way, and what a call leaves. Assumes nothing.
+use Rattle.numeric.specs.Refusal.{answer_number}
+use Rattle.std.specs.Prelude.{Result, Ok, Err, ⊤}
+use Rattle.corrections_add.specs.declared.add.Counts.{Counts}
 use mathlib.Core.Path.{◌≡◌, refl, sym, ◌∙◌}
 use mathlib.Core.Bool.{Bool, true, false, cond, not, ◌&&◌, ◌||◌}
 use mathlib.Core.List.{List}
@@ -15,15 +18,13 @@ use Rattle.numeric.specs.declared.refusal.Refusal.TheVariants.{TooMany, RecordOu
 use Rattle.corrections_table.specs.Table.{ranged}
 use Rattle.corrections_table.specs.Add.{counted_samples, insert_all}
 use Rattle.corrections_table.specs.declared.add.Samples.{Samples}
-use Rattle.corrections_table.specs.declared.add.Test.{Test}
 use Rattle.corrections_table.proofs.TableLaws.{and_left, and_right}
 use Rattle.corrections_table.proofs.UnitLaws.{never}
 use Rattle.corrections_table.proofs.InsertLaws.{insert_all-length}
 use Rattle.corrections_directory.specs.Directory.{Directory, Blocks, PatternsWith, block_capacity, blocks_with, directory_in, directory_of, entries_in, flat, reading_of, readings_in, sound_directory}
 use Rattle.corrections_directory.proofs.ColumnLaws.{flat-length}
 use Rattle.corrections_add.specs.Steps.{Fitting}
-use Rattle.corrections_add.specs.Add.{PatternsAfter, Places, add_in, addition_number, addition_of, directory_with, test_in}
-use Rattle.corrections_add.specs.declared.add.Addition.{Addition}
+use Rattle.corrections_add.specs.Add.{PatternsAfter, Places, add_in, addition_of, directory_with, test_in}
 
 or_left : (a b : Bool) → (a || b) ≡ false → a ≡ false
 or_left true b e = e
@@ -45,31 +46,31 @@ few-of m n r k e =
     record { entries = ltb-false r m (or_left (ltb r m) (ltb r n) a); samples = ltb-false r n (or_right (ltb r m) (ltb r n) a); new = ltb-false 64 k (or_right (ltb r m || ltb r n) (ltb 64 k) e) }
 
 module _ (m n room r : ℕ) (e : r ≡ room) (d : Directory) (new : Samples) where
-  pub test-count : ((ltb r m || ltb r n) || ltb 64 new.count) ≡ true → Test.Refused TooMany ≡ test_in m n room d new
+  pub test-count : ((ltb r m || ltb r n) || ltb 64 new.count) ≡ true → Err TooMany ≡ test_in m n room d new
   unfolding test_in ruled
   test-count h = rw (← e, h)
 
   module _ (h : ((ltb r m || ltb r n) || ltb 64 new.count) ≡ false) {x : Bool} (ex : x ≡ sound_directory d) where
-    pub test-sound : not x ≡ true → Test.Refused RecordOutOfRange ≡ test_in m n room d new
+    pub test-sound : not x ≡ true → Err RecordOutOfRange ≡ test_in m n room d new
     unfolding test_in ruled
     test-sound u = rw (← e, h, sym ex ∙ not-true x u)
 
     module _ (u : not x ≡ false) {y : Bool} (ey : y ≡ every ranged (counted_samples new)) where
-      pub test-ranged : not y ≡ true → Test.Refused RecordOutOfRange ≡ test_in m n room d new
+      pub test-ranged : not y ≡ true → Err RecordOutOfRange ≡ test_in m n room d new
       unfolding test_in ruled
       test-ranged v = rw (← e, h, sym ex ∙ not-false x u, sym ey ∙ not-true y v)
 
       module _ (v : not y ≡ false) where
-        pub test-room : r < n + new.count → Test.Refused TableFull ≡ test_in m n room d new
+        pub test-room : r < n + new.count → Err TableFull ≡ test_in m n room d new
         unfolding test_in ruled
         test-room w = rw (← e, h, sym ex ∙ not-false x u, sym ey ∙ not-false y v, lt-ltb r (n + new.count) w)
 
-        pub test-passed : n + new.count ≤ r → Test.Passed ≡ test_in m n room d new
+        pub test-passed : n + new.count ≤ r → (Ok tt) ≡ test_in m n room d new
         unfolding test_in ruled
         test-passed w = rw (← e, h, sym ex ∙ not-false x u, sym ey ∙ not-false y v, le-ltb r (n + new.count) w)
 
 -- ---- what a passed test says
-refused_not : {A : Type 0} (r : Refusal) → Test.Refused r ≡ Test.Passed → A
+refused_not : {A : Type 0} (r : Refusal) → ◌≡◌ {A = Result ⊤ Refusal} (Err r) (Ok tt) → A
 refused_not r e = absurd (let z : ◌≡◌ {A = ℕ} 0 1 = cc in omega arith)
 
 pub record PassedAddition (m n room : ℕ) (d : Directory) (new : Samples) : Type 0 where
@@ -78,12 +79,12 @@ pub record PassedAddition (m n room : ℕ) (d : Directory) (new : Samples) : Typ
   pub every-ranged : every ranged (counted_samples new) ≡ true
   pub fit : n + new.count ≤ room
 
-pub passed : (m n room : ℕ) (d : Directory) (new : Samples) → test_in m n room d new ≡ Test.Passed → PassedAddition m n room d new
+pub passed : (m n room : ℕ) (d : Directory) (new : Samples) → test_in m n room d new ≡ (Ok tt) → PassedAddition m n room d new
 unfolding test_in ruled
 passed m n room d new e = go ((ltb room m || ltb room n) || ltb 64 new.count) (sound_directory d && every ranged (counted_samples new)) (ltb room (n + new.count)) refl refl refl e
   where
     go : (x y z : Bool) → ((ltb room m || ltb room n) || ltb 64 new.count) ≡ x → (sound_directory d && every ranged (counted_samples new)) ≡ y → ltb room (n + new.count) ≡ z
-        → cond x (Test.Refused TooMany) (cond (not y) (Test.Refused RecordOutOfRange) (cond z (Test.Refused TableFull) Test.Passed)) ≡ Test.Passed → PassedAddition m n room d new
+        → ◌≡◌ {A = Result ⊤ Refusal} (cond x (Err TooMany) (cond (not y) (Err RecordOutOfRange) (cond z (Err TableFull) (Ok tt)))) (Ok tt) → PassedAddition m n room d new
     go true y z a b c e = refused_not TooMany e
     go false false z a b c e = refused_not RecordOutOfRange e
     go false true true a b c e = refused_not TableFull e
@@ -108,15 +109,15 @@ passed-fits m n l new p = parts (length (entries_in l)) (length (readings_in l))
 
 -- ---- what is left
 module _ (m n room : ℕ) (d : Directory) (new : Samples) (l : Blocks) (ts xs : List ℕ) where
-  pub add-refused : (r : Refusal) → Test.Refused r ≡ test_in m n room d new
-      → (let o = add_in m n room d new in (Addition.Refused r ≡ addition_of o) × (Places o (addition_number (Addition.Refused r)) m m n n l l × PatternsAfter o ts xs ts xs))
+  pub add-refused : (r : Refusal) → Err r ≡ test_in m n room d new
+      → (let o = add_in m n room d new in (Err r ≡ addition_of o) × (Places o (answer_number {A = Counts} (Err r)) m m n n l l × PatternsAfter o ts xs ts xs))
   unfolding add_in
   add-refused r e = rw (← e) (refl, (record { number_is = refl; entries-are = refl; samples-are = refl; columns = refl }, (refl, refl)))
 
-  pub add-passed : (k : ℕ) (l' : Blocks) {ts' xs' : List ℕ} → Test.Passed ≡ test_in m n room d new
+  pub add-passed : (k : ℕ) (l' : Blocks) {ts' xs' : List ℕ} → (Ok tt) ≡ test_in m n room d new
       → (let d' = directory_with d (counted_samples new) in
       k ≡ length d'.entries → n + new.count ≡ length d'.readings → l' ≡ blocks_with d' l → PatternsWith d' ts xs ts' xs'
-      → (let a = Addition.Added record { entries = k; samples = n + new.count } in
+      → (let a : Result Counts Refusal = Ok record { entries = k; samples = n + new.count } in
       let o = add_in m n room d new in
       (a ≡ addition_of o) × (Places o 0 m k n (n + new.count) l l' × PatternsAfter o ts xs ts' xs')))
   unfolding add_in

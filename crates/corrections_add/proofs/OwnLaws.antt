@@ -23,13 +23,6 @@ use Rattle.corrections_add.proofs.LastLaws.{entry_at, last-new, last-old, lies_f
 abbrev pub Own : List ℕ → List ℕ → List ℕ → ℕ → ℕ → ℕ → Type 0
 Own cs vs bs g a j = (x : ℕ) → a ≤ x → x < j → signal (get_or cs x 0) (get_or vs x 0) (get_or bs x 0) ≡ g
 
-pub own-more : (cs vs bs : List ℕ) (g a j : ℕ) → Own cs vs bs g a j → 0 < a → signal (get_or cs (a - 1) 0) (get_or vs (a - 1) 0) (get_or bs (a - 1) 0) ≡ g → Own cs vs bs g (a - 1) j
-own-more cs vs bs g a j o h e x l m = go (eqb x (a - 1)) refl
-  where
-    go : (b : Bool) → eqb x (a - 1) ≡ b → signal (get_or cs x 0) (get_or vs x 0) (get_or bs x 0) ≡ g
-    go true q = let z : x ≡ a - 1 = eqb-true x (a - 1) q in rw z e
-    go false q = let z = eqb-false x (a - 1) q in o x (omega arith) m
-
 -- ---- for a list of samples that the columns stand for
 module _ {cs vs bs : List ℕ} {k : ℕ} {u : List Sample} (o : OfSignals cs vs bs k u) where
   pub signal-of : (x : ℕ) → x < k → signal_of (get_or u x blank) ≡ signal (get_or cs x 0) (get_or vs x 0) (get_or bs x 0)

@@ -1,6 +1,8 @@
 -- What the contracts of the steps say: the first samples of a table with the first of new ones, from the back to the front. Definitions only.
+use Rattle.std.specs.Prelude.{Result, ⊤}
+use Rattle.numeric.specs.declared.refusal.Refusal.{Refusal}
 use Rattle.std.specs.Prelude.{ℕ, zero, suc, ◌+◌, ◌-◌, ◌^◌, ◌≤◌, ◌<◌, List, [], ◌∷◌, ◌++◌, ◌≡◌, true, false, ◌&&◌, ◌||◌, eqb, ltb, Float, length, get_or, take, set}
-use Rattle.lists.specs.Memory.{before, after, LentNumbers, LentFloats}
+use Rattle.lists.specs.Memory.{before, after, LentNumbers}
 use Rattle.exact.specs.Float.{bits}
 use Rattle.lists.specs.Walk.{collect}
 use Rattle.numeric.specs.Order.{pattern_of}
@@ -9,13 +11,15 @@ use Rattle.corrections_table.specs.Table.{blank, rows, sorted, table_of, time_be
 use Rattle.corrections_table.specs.Add.{insert_all}
 use Rattle.corrections_table.specs.declared.sample.Sample.{Sample}
 use Rattle.corrections_table.specs.declared.add.Samples.{Samples}
-use Rattle.corrections_table.specs.declared.add.Test.{Test}
 use Rattle.corrections_directory.specs.Directory.{Blocks, Directory, Entry, PatternsWith, Reading, ascends, block, block_capacity, blocks_with, column_of, directory_in, entries_from, entries_in, entry_rows, flat, floats, lent_blocks, readings_in, sound_directory, tiles}
 use Rattle.corrections_directory.specs.Steps.{no_entry, readings_now, rows_before, rows_now}
-use Rattle.corrections_directory.specs.Lent.{FloatSlice, LentTable, Slice}
-use Rattle.corrections_table.specs.Lent.{columns_before, columns_now}
+use Rattle.corrections_directory.specs.Lent.{LentTable, Slice}
+use Rattle.corrections_directory.specs.Table.{columns_of}
+use Rattle.corrections_directory.specs.declared.entry.Table.{Table}
+use Rattle.corrections_table.specs.Lent.{columns_now}
 use Rattle.corrections_add.specs.Add.{directory_with, test_in}
 use Rattle.corrections_add.specs.declared.entries.Last.{Last}
+use Rattle.corrections_add.specs.declared.samples.NewSamples.{NewSamples}
 
 -- the samples of the first i blocks
 abbrev pub blocks_up_to : List Reading → List Entry → ℕ → List Sample
@@ -123,60 +127,60 @@ pub record EntriesMerged (es : List Entry) (dc dv db df dn dc' dv' db' df' dn' :
 -- ---- the columns of the contracts
 
 -- the j-th of new samples and those before it are in the columns of signals
-abbrev pub NewIn : ℕ → Slice → Slice → Slice → Type 0
-NewIn j c v b = (j ≤ length c.now) × ((j ≤ length v.now) × (j ≤ length b.now))
+abbrev pub NewIn : ℕ → NewSamples → Type 0
+NewIn j w = (j ≤ length w.constellation.now) × ((j ≤ length w.svid.now) × (j ≤ length w.band.now))
 
 -- i blocks in ascending order and j new samples, which end at `end`; no number wraps
-abbrev pub Ending : Slice → Slice → Slice → Slice → Slice → ℕ → Slice → Slice → Slice → ℕ → ℕ → Type 0
-Ending c v b f n i nc nv nb j end =
+abbrev pub Ending : Slice → Slice → Slice → Slice → Slice → ℕ → NewSamples → ℕ → ℕ → Type 0
+Ending c v b f n i w j end =
     (let es = rows_now c v b f n in (i ≤ length es) × (ascends 0 (take i es) ≡ true))
-    × (((0 < j) × ((j ≤ end) × NewIn j nc nv nb)) × (0 < i → (get_or f.now (i - 1) 0 + j < 2 ^ 64) × (get_or n.now (i - 1) 0 + j < 2 ^ 64)))
+    × (((0 < j) × ((j ≤ end) × NewIn j w)) × (0 < i → (get_or f.now (i - 1) 0 + j < 2 ^ 64) × (get_or n.now (i - 1) 0 + j < 2 ^ 64)))
 
 -- the entry that was found is the last one
-abbrev pub Found : LentNumbers → LentNumbers → LentNumbers → LentNumbers → LentNumbers → ℕ → LentNumbers → LentNumbers → LentNumbers → ℕ → ℕ → Last → Type 0
-Found c v b f n i nc nv nb j end r =
-    LastOf (take i (rows_before c v b f n)) (before nc) (before nv) (before nb) i j end r
+abbrev pub Found : LentNumbers → LentNumbers → LentNumbers → LentNumbers → LentNumbers → ℕ → NewSamples → ℕ → ℕ → Last → Type 0
+Found c v b f n i w j end r =
+    LastOf (take i (rows_before c v b f n)) w.constellation.now w.svid.now w.band.now i j end r
 
 -- r is how many entries m blocks of n samples have with k new samples, whatever these and the readings are
 abbrev pub EntryCount : List ℕ → List ℕ → List ℕ → List ℕ → List ℕ → ℕ → ℕ → List ℕ → List ℕ → List ℕ → ℕ → ℕ → Type 0
 EntryCount dc dv db df dn m n cs vs bs k r = (rs : List Reading) (u : List Sample) → length rs ≡ n → OfSignals cs vs bs k u → r ≡ length (entries_up_to rs (take m (entry_rows dc dv db df dn)) u m k)
 
-abbrev pub Counted : LentNumbers → LentNumbers → LentNumbers → LentNumbers → LentNumbers → ℕ → ℕ → LentNumbers → LentNumbers → LentNumbers → ℕ → ℕ → Type 0
-Counted c v b f n m samples nc nv nb k r =
-    EntryCount (before c) (before v) (before b) (before f) (before n) m samples (before nc) (before nv) (before nb) k r
+abbrev pub Counted : LentNumbers → LentNumbers → LentNumbers → LentNumbers → LentNumbers → ℕ → ℕ → NewSamples → ℕ → Type 0
+Counted c v b f n m samples w r =
+    EntryCount (before c) (before v) (before b) (before f) (before n) m samples w.constellation.now w.svid.now w.band.now w.count r
 
 -- m blocks of some samples lie one after the other, and k new ones may be counted with them
-abbrev pub Countable : Slice → Slice → Slice → Slice → Slice → ℕ → ℕ → Slice → Slice → Slice → ℕ → Type 0
-Countable c v b f n m samples nc nv nb k = Tiled c.now v.now b.now f.now n.now m samples × ((m + (samples + k) < 2 ^ 64) × NewIn k nc nv nb)
+abbrev pub Countable : Slice → Slice → Slice → Slice → Slice → ℕ → ℕ → NewSamples → Type 0
+Countable c v b f n m samples w = Tiled c.now v.now b.now f.now n.now m samples × ((m + (samples + w.count) < 2 ^ 64) × NewIn w.count w)
 
 -- the columns have places for the r entries that the blocks and the k new samples make
-abbrev pub Writable : Slice → Slice → Slice → Slice → Slice → ℕ → ℕ → Slice → Slice → Slice → ℕ → ℕ → Type 0
-Writable c v b f n m samples nc nv nb k r =
-    Tiled c.now v.now b.now f.now n.now m samples × (((samples + k < 2 ^ 64) × NewIn k nc nv nb) × (SomeSignals nc.now nv.now nb.now k
-    × ((r ≤ length (rows_now c v b f n)) × EntryCount c.now v.now b.now f.now n.now m samples nc.now nv.now nb.now k r)))
+abbrev pub Writable : Slice → Slice → Slice → Slice → Slice → ℕ → ℕ → NewSamples → ℕ → Type 0
+Writable c v b f n m samples w r =
+    Tiled c.now v.now b.now f.now n.now m samples × (((samples + w.count < 2 ^ 64) × NewIn w.count w) × (SomeSignals w.constellation.now w.svid.now w.band.now w.count
+    × ((r ≤ length (rows_now c v b f n)) × EntryCount c.now v.now b.now f.now n.now m samples w.constellation.now w.svid.now w.band.now w.count r)))
 
 -- the columns have the entries of the blocks with the new samples
-abbrev pub EntriesWritten : LentNumbers → LentNumbers → LentNumbers → LentNumbers → LentNumbers → ℕ → ℕ → LentNumbers → LentNumbers → LentNumbers → ℕ → Type 0
-EntriesWritten c v b f n m samples nc nv nb k =
-    (rs : List Reading) (u : List Sample) → length rs ≡ samples → OfSignals (before nc) (before nv) (before nb) k u
-    → EntriesMerged (entries_up_to rs (take m (rows_before c v b f n)) u m k)
+abbrev pub EntriesWritten : LentNumbers → LentNumbers → LentNumbers → LentNumbers → LentNumbers → ℕ → ℕ → NewSamples → Type 0
+EntriesWritten c v b f n m samples w =
+    (rs : List Reading) (u : List Sample) → length rs ≡ samples → OfSignals w.constellation.now w.svid.now w.band.now w.count u
+    → EntriesMerged (entries_up_to rs (take m (rows_before c v b f n)) u m w.count)
     (before c) (before v) (before b) (before f) (before n) (after c) (after v) (after b) (after f) (after n)
 
 -- k new samples may be entered among m blocks of some samples: the columns have places for all the entries that they make
-abbrev pub Enterable : Slice → Slice → Slice → Slice → Slice → ℕ → ℕ → Slice → Slice → Slice → ℕ → Type 0
-Enterable c v b f n m samples nc nv nb k =
-    Countable c v b f n m samples nc nv nb k × (SomeSignals nc.now nv.now nb.now k
-    × ((r : ℕ) → EntryCount c.now v.now b.now f.now n.now m samples nc.now nv.now nb.now k r → r ≤ length (rows_now c v b f n)))
+abbrev pub Enterable : Slice → Slice → Slice → Slice → Slice → ℕ → ℕ → NewSamples → Type 0
+Enterable c v b f n m samples w =
+    Countable c v b f n m samples w × (SomeSignals w.constellation.now w.svid.now w.band.now w.count
+    × ((r : ℕ) → EntryCount c.now v.now b.now f.now n.now m samples w.constellation.now w.svid.now w.band.now w.count r → r ≤ length (rows_now c v b f n)))
 
 -- the columns have them, and there are r
-abbrev pub Enters : LentNumbers → LentNumbers → LentNumbers → LentNumbers → LentNumbers → ℕ → ℕ → LentNumbers → LentNumbers → LentNumbers → ℕ → ℕ → Type 0
-Enters c v b f n m samples nc nv nb k r = Counted c v b f n m samples nc nv nb k r × EntriesWritten c v b f n m samples nc nv nb k
+abbrev pub Enters : LentNumbers → LentNumbers → LentNumbers → LentNumbers → LentNumbers → ℕ → ℕ → NewSamples → ℕ → Type 0
+Enters c v b f n m samples w r = Counted c v b f n m samples w r × EntriesWritten c v b f n m samples w
 
 -- ---- times and corrections
 
 -- k samples that are sorted
-abbrev pub SortedNew : ℕ → Slice → Slice → Slice → FloatSlice → FloatSlice → Type 0
-SortedNew k c v b t x = (let l = columns_now c v b t x in (k ≤ length (rows l)) × (sorted (table_of k l) ≡ true))
+abbrev pub SortedNew : NewSamples → Type 0
+SortedNew w = (let l = columns_now w.constellation w.svid w.band w.time w.metres in (w.count ≤ length (rows l)) × (sorted (table_of w.count l) ≡ true))
 
 -- the first i times, the last one in the block of the entry e - 1
 abbrev pub InLast : Slice → Slice → Slice → Slice → ℕ → Slice → ℕ → Type 0
@@ -199,11 +203,11 @@ pub record Steady (dc dv db df : List ℕ) (m : ℕ) (ts xs : List ℕ) (n : ℕ
   pub steady : sound_directory (directory_in m n (lent_blocks dc dv db df dn (floats ts) (floats xs))) ≡ true
 
 -- they are with some counts, have room for k samples more, and k samples are sorted
-pub record Mergeable (c v b f : Slice) (m : ℕ) (t x : Slice) (n : ℕ) (nc nv nb : Slice) (nt nx : FloatSlice) (k : ℕ) : Type 0 where
+pub record Mergeable (c v b f : Slice) (m : ℕ) (t x : Slice) (n : ℕ) (w : NewSamples) : Type 0 where
   pub counts : List ℕ
   pub held : Steady c.now v.now b.now f.now m t.now x.now n counts
-  pub room : n + k ≤ length (readings_now t x)
-  pub new : SortedNew k nc nv nb nt nx
+  pub room : n + w.count ≤ length (readings_now t x)
+  pub new : SortedNew w
 
 -- the times and corrections have those of u, whatever counts make the directory
 abbrev pub ReadingsWritten : LentNumbers → LentNumbers → LentNumbers → LentNumbers → ℕ → LentNumbers → LentNumbers → ℕ → List Sample → Type 0
@@ -223,13 +227,13 @@ pub record Fitting (m n k : ℕ) (l : Blocks) : Type 0 where
   pub room-readings : n + k ≤ length (readings_in l)
   pub steady : sound_directory (directory_in m n l) ≡ true
 
--- the first k new samples
-abbrev pub lent_samples : ℕ → LentNumbers → LentNumbers → LentNumbers → LentFloats → LentFloats → List Sample
-lent_samples k c v b t x = table_of k (columns_before c v b t x)
+-- the new samples
+abbrev pub lent_samples : NewSamples → List Sample
+lent_samples w = table_of w.count (columns_now w.constellation w.svid w.band w.time w.metres)
 
--- what is tested before new samples go to the m entries and n samples of lent columns
-abbrev pub lent_test : ℕ → ℕ → Samples → LentTable → Test
-lent_test m n new t = test_in m n (block_capacity t.before) (directory_in m n t.before) new
+-- what is tested before new samples go to a table in lent columns
+abbrev pub table_test : Samples → Table ℕ → Result ⊤ Refusal
+table_test new t = (let l = columns_of floats t in test_in t.blocks t.table_count (block_capacity l) (directory_in t.blocks t.table_count l) new)
 
 -- the columns have the directory d, of r entries, and its patterns
 abbrev pub Becomes : Directory → ℕ → LentTable → Type 0

@@ -5,12 +5,14 @@ ghost use Rattle.lists.specs.Walk.{every};
 ghost use Rattle.corrections_table.specs.Table.{ranged};
 ghost use Rattle.corrections_directory.specs.Lent.{lent_table, table_now};
 ghost use Rattle.corrections_add.specs.Add.{AddsSamples};
-ghost use Rattle.corrections_add.specs.Steps.{Fitting, Gains, SortedNew, lent_samples, lent_test};
+ghost use Rattle.corrections_add.specs.Steps.{Fitting, Gains, SortedNew, lent_samples, table_test};
 
 use crate::entries::enter;
 use crate::readings::merge_readings;
-use corrections_directory::patterns::{capacity_of, is_sound};
-use corrections_table::add::{Samples, Test, all_ranged, insert_all};
+use crate::samples::NewSamples;
+use corrections_directory::entry::Table;
+use corrections_directory::sound::is_sound;
+use corrections_table::add::{Samples, all_ranged, insert_all};
 use corrections_table::sample::Sample;
 use numeric::refusal::Refusal;
 
@@ -21,65 +23,27 @@ pub struct Counts {
     pub samples: usize,
 }
 
-// The answer to adding: why nothing was added, or how many entries and samples there are now.
-#[derive(Clone, Copy)]
-pub enum Addition {
-    Refused(Refusal),
-    Added(Counts),
-}
-
 // Checks numbers 2, 4 and 11, in this order.
-fn tested(
-    block_constellation: &[u8],
-    block_svid: &[u16],
-    block_band: &[u32],
-    block_first: &[usize],
-    block_samples: &[usize],
-    blocks: usize,
-    table_time: &[u64],
-    table_metres: &[u64],
-    table_count: usize,
-    new: Samples,
-) -> Test
-    ensures { result ≡ lent_test blocks table_count new (lent_table
-        block_constellation block_svid block_band block_first block_samples table_time table_metres) }
+fn tested(table: Table<u64>, new: Samples) -> Result<(), Refusal>
+    ensures { result ≡ table_test new table.entry }
 {
-    let new_count = new.count;
-    let room = capacity_of(
-        block_constellation,
-        block_svid,
-        block_band,
-        block_first,
-        block_samples,
-        table_time,
-        table_metres,
-    );
-    if (room < blocks) | (room < table_count) | (64 < new_count) {
-        return Test::Refused(Refusal::TooMany);
+    let room = table.capacity();
+    if (room < table.blocks) | (room < table.table_count) | (64 < new.count) {
+        return Err(Refusal::TooMany);
     }
-    if !is_sound(
-        block_constellation,
-        block_svid,
-        block_band,
-        block_first,
-        block_samples,
-        blocks,
-        table_time,
-        table_metres,
-        table_count,
-    ) {
-        return Test::Refused(Refusal::RecordOutOfRange);
+    if !is_sound(table) {
+        return Err(Refusal::RecordOutOfRange);
     }
     if !all_ranged(new) {
-        return Test::Refused(Refusal::RecordOutOfRange);
+        return Err(Refusal::RecordOutOfRange);
     }
-    if room < table_count + new_count {
-        return Test::Refused(Refusal::TableFull);
+    if room < table.table_count + new.count {
+        return Err(Refusal::TableFull);
     }
-    Test::Passed
+    Ok(())
 }
 
-// Merges the sorted samples of five columns into a sound directory that has room for them all. Returns how many entries there are now.
+// Merges the sorted samples `new` into a sound directory that has room for them all. Returns how many entries there are now.
 fn merge(
     block_constellation: &mut [u8],
     block_svid: &mut [u16],
@@ -90,17 +54,12 @@ fn merge(
     table_time: &mut [u64],
     table_metres: &mut [u64],
     table_count: usize,
-    new_constellation: &[u8],
-    new_svid: &[u16],
-    new_band: &[u32],
-    new_time: &[f64],
-    new_metres: &[f64],
-    new_count: usize,
+    new: NewSamples,
 ) -> usize
-    requires fitting { Fitting blocks table_count new_count
-        (table_now (held block_constellation) (held block_svid) (held block_band) (held block_first) (held block_samples) (held table_time) (held table_metres)) }
-    requires sorted_new { SortedNew new_count new_constellation new_svid new_band new_time new_metres }
-    ensures { Gains (lent_samples new_count new_constellation new_svid new_band new_time new_metres) result blocks table_count (lent_table
+    requires fitting { Fitting blocks table_count new.count (table_now
+        (held block_constellation) (held block_svid) (held block_band) (held block_first) (held block_samples) (held table_time) (held table_metres)) }
+    requires sorted_new { SortedNew new }
+    ensures { Gains (lent_samples new.entry) result blocks table_count (lent_table
         (lent block_constellation) (lent block_svid) (lent block_band) (lent block_first) (lent block_samples) (lent table_time) (lent table_metres)) }
 {
     merge_readings(
@@ -112,12 +71,7 @@ fn merge(
         table_time,
         table_metres,
         table_count,
-        new_constellation,
-        new_svid,
-        new_band,
-        new_time,
-        new_metres,
-        new_count,
+        new,
     );
     enter(
         block_constellation,
@@ -127,10 +81,7 @@ fn merge(
         block_samples,
         blocks,
         table_count,
-        new_constellation,
-        new_svid,
-        new_band,
-        new_count,
+        new,
     )
 }
 
@@ -149,8 +100,8 @@ fn place(
     new_count: usize,
 ) -> usize
     requires new_count_bound { (new_count ≤ 64) × (every ranged (take new_count new) ≡ true) }
-    requires fitting { Fitting blocks table_count new_count
-        (table_now (held block_constellation) (held block_svid) (held block_band) (held block_first) (held block_samples) (held table_time) (held table_metres)) }
+    requires fitting { Fitting blocks table_count new_count (table_now
+        (held block_constellation) (held block_svid) (held block_band) (held block_first) (held block_samples) (held table_time) (held table_metres)) }
     ensures { Gains (take new_count new) result blocks table_count (lent_table
         (lent block_constellation) (lent block_svid) (lent block_band) (lent block_first) (lent block_samples) (lent table_time) (lent table_metres)) }
 {
@@ -169,6 +120,14 @@ fn place(
         new,
         new_count,
     );
+    let sorted = NewSamples::new(
+        new_count,
+        &new_constellation,
+        &new_svid,
+        &new_band,
+        &new_time,
+        &new_metres,
+    );
     merge(
         block_constellation,
         block_svid,
@@ -179,12 +138,7 @@ fn place(
         table_time,
         table_metres,
         table_count,
-        &new_constellation,
-        &new_svid,
-        &new_band,
-        &new_time,
-        &new_metres,
-        new_count,
+        sorted,
     )
 }
 
@@ -200,11 +154,11 @@ pub fn add(
     table_metres: &mut [u64],
     table_count: usize,
     new: Samples,
-) -> Addition
+) -> Result<Counts, Refusal>
     ensures { AddsSamples new result blocks table_count (lent_table
         (lent block_constellation) (lent block_svid) (lent block_band) (lent block_first) (lent block_samples) (lent table_time) (lent table_metres)) }
 {
-    let test = tested(
+    let table = Table {
         block_constellation,
         block_svid,
         block_band,
@@ -214,30 +168,25 @@ pub fn add(
         table_time,
         table_metres,
         table_count,
-        new,
+    };
+    tested(table, new)?;
+    let new_count = new.count;
+    let samples = new.samples;
+    let entries = place(
+        block_constellation,
+        block_svid,
+        block_band,
+        block_first,
+        block_samples,
+        blocks,
+        table_time,
+        table_metres,
+        table_count,
+        samples,
+        new_count,
     );
-    match test {
-        Test::Refused(r) => Addition::Refused(r),
-        Test::Passed => {
-            let new_count = new.count;
-            let samples = new.samples;
-            let entries = place(
-                block_constellation,
-                block_svid,
-                block_band,
-                block_first,
-                block_samples,
-                blocks,
-                table_time,
-                table_metres,
-                table_count,
-                samples,
-                new_count,
-            );
-            Addition::Added(Counts {
-                entries: entries,
-                samples: table_count + new_count,
-            })
-        }
-    }
+    Ok(Counts {
+        entries: entries,
+        samples: table_count + new_count,
+    })
 }

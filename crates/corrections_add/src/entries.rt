@@ -3,6 +3,7 @@ ghost use Rattle.std.specs.Prelude.{◌≤◌, ◌<◌};
 ghost use Rattle.lists.specs.Memory.{held, lent};
 ghost use Rattle.corrections_add.specs.Steps.{Countable, Counted, Ending, Enterable, Enters, EntriesWritten, Found, NewIn, NewLast, OwnFrom, Writable};
 
+use crate::samples::NewSamples;
 use corrections_directory::entry::signal_at;
 
 // The last entry of the first blocks with the first new samples, and how many blocks and new samples come before it.
@@ -18,47 +19,32 @@ pub struct Last {
 }
 
 // Finds where the last of the first j new samples that are of the signal g begin.
-fn own_start(
-    new_constellation: &[u8],
-    new_svid: &[u16],
-    new_band: &[u32],
-    j: usize,
-    g: u64,
-) -> usize
-    requires { NewIn j new_constellation new_svid new_band }
-    ensures { OwnFrom new_constellation.now new_svid.now new_band.now g result j }
+fn own_start(new: NewSamples, j: usize, g: u64) -> usize
+    requires { NewIn j new }
+    ensures { OwnFrom new.entry.constellation.now new.entry.svid.now new.entry.band.now g result j }
 {
-    let mut a = j;
-    while 0 < a {
-        let h = signal_at(new_constellation, new_svid, new_band, a - 1);
+    for a in (0..j).rev() {
+        let h = new.signal_at(a);
         if h != g {
-            return a;
+            return a + 1;
         }
-        a -= 1;
     }
-    a
+    0
 }
 
 // Returns the block of the last new samples alone, after i blocks; together they end at `end`.
-fn new_last(
-    i: usize,
-    new_constellation: &[u8],
-    new_svid: &[u16],
-    new_band: &[u32],
-    j: usize,
-    end: usize,
-) -> Last
-    requires { (0 < j) × ((j ≤ end) × NewIn j new_constellation new_svid new_band) }
-    ensures { NewLast new_constellation.now new_svid.now new_band.now i j end result }
+fn new_last(i: usize, new: NewSamples, j: usize, end: usize) -> Last
+    requires { (0 < j) × ((j ≤ end) × NewIn j new) }
+    ensures { NewLast new.entry.constellation.now new.entry.svid.now new.entry.band.now i j end result }
 {
-    let g = signal_at(new_constellation, new_svid, new_band, j - 1);
-    let a = own_start(new_constellation, new_svid, new_band, j, g);
+    let g = new.signal_at(j - 1);
+    let a = own_start(new, j, g);
     Last {
         entries: i,
         samples: a,
-        constellation: new_constellation[j - 1],
-        svid: new_svid[j - 1],
-        band: new_band[j - 1],
+        constellation: new.constellation[j - 1],
+        svid: new.svid[j - 1],
+        band: new.band[j - 1],
         first: end - (j - a),
         count: j - a,
     }
@@ -73,24 +59,22 @@ fn last_of(
     block_first: &[usize],
     block_samples: &[usize],
     i: usize,
-    new_constellation: &[u8],
-    new_svid: &[u16],
-    new_band: &[u32],
+    new: NewSamples,
     j: usize,
     end: usize,
 ) -> Last
-    requires { Ending block_constellation block_svid block_band block_first block_samples i new_constellation new_svid new_band j end }
-    ensures { Found block_constellation block_svid block_band block_first block_samples i new_constellation new_svid new_band j end result }
+    requires { Ending block_constellation block_svid block_band block_first block_samples i new j end }
+    ensures { Found block_constellation block_svid block_band block_first block_samples i new.entry j end result }
 {
     if i == 0 {
-        return new_last(i, new_constellation, new_svid, new_band, j, end);
+        return new_last(i, new, j, end);
     }
-    let g = signal_at(new_constellation, new_svid, new_band, j - 1);
+    let g = new.signal_at(j - 1);
     let h = signal_at(block_constellation, block_svid, block_band, i - 1);
     if h < g {
-        return new_last(i, new_constellation, new_svid, new_band, j, end);
+        return new_last(i, new, j, end);
     }
-    let a = own_start(new_constellation, new_svid, new_band, j, h);
+    let a = own_start(new, j, h);
     Last {
         entries: i - 1,
         samples: a,
@@ -111,19 +95,14 @@ fn entries_after(
     block_samples: &[usize],
     blocks: usize,
     table_count: usize,
-    new_constellation: &[u8],
-    new_svid: &[u16],
-    new_band: &[u32],
-    new_count: usize,
+    new: NewSamples,
 ) -> usize
-    requires { Countable block_constellation block_svid block_band block_first block_samples blocks table_count
-        new_constellation new_svid new_band new_count }
-    ensures { Counted block_constellation block_svid block_band block_first block_samples blocks table_count
-        new_constellation new_svid new_band new_count result }
+    requires { Countable block_constellation block_svid block_band block_first block_samples blocks table_count new }
+    ensures { Counted block_constellation block_svid block_band block_first block_samples blocks table_count new.entry result }
 {
     let mut i = blocks;
-    let mut j = new_count;
-    let mut end = table_count + new_count;
+    let mut j = new.count;
+    let mut end = table_count + new.count;
     let mut count: usize = 0;
     while 0 < j {
         let last = last_of(
@@ -133,9 +112,7 @@ fn entries_after(
             block_first,
             block_samples,
             i,
-            new_constellation,
-            new_svid,
-            new_band,
+            new,
             j,
             end,
         );
@@ -156,20 +133,16 @@ fn merge_entries(
     block_samples: &mut [usize],
     blocks: usize,
     table_count: usize,
-    new_constellation: &[u8],
-    new_svid: &[u16],
-    new_band: &[u32],
-    new_count: usize,
+    new: NewSamples,
     count: usize,
 )
-    requires { Writable (held block_constellation) (held block_svid) (held block_band) (held block_first) (held block_samples) blocks table_count
-        new_constellation new_svid new_band new_count count }
-    ensures { EntriesWritten (lent block_constellation) (lent block_svid) (lent block_band) (lent block_first) (lent block_samples) blocks table_count
-        new_constellation new_svid new_band new_count }
+    requires { Writable (held block_constellation) (held block_svid) (held block_band) (held block_first) (held block_samples) blocks table_count new count }
+    ensures { EntriesWritten
+        (lent block_constellation) (lent block_svid) (lent block_band) (lent block_first) (lent block_samples) blocks table_count new.entry }
 {
     let mut i = blocks;
-    let mut j = new_count;
-    let mut end = table_count + new_count;
+    let mut j = new.count;
+    let mut end = table_count + new.count;
     let mut w = count;
     while 0 < j {
         let last = last_of(
@@ -179,9 +152,7 @@ fn merge_entries(
             block_first,
             block_samples,
             i,
-            new_constellation,
-            new_svid,
-            new_band,
+            new,
             j,
             end,
         );
@@ -206,15 +177,11 @@ pub(crate) fn enter(
     block_samples: &mut [usize],
     blocks: usize,
     table_count: usize,
-    new_constellation: &[u8],
-    new_svid: &[u16],
-    new_band: &[u32],
-    new_count: usize,
+    new: NewSamples,
 ) -> usize
-    requires { Enterable (held block_constellation) (held block_svid) (held block_band) (held block_first) (held block_samples) blocks table_count
-        new_constellation new_svid new_band new_count }
-    ensures { Enters (lent block_constellation) (lent block_svid) (lent block_band) (lent block_first) (lent block_samples) blocks table_count
-        new_constellation new_svid new_band new_count result }
+    requires { Enterable (held block_constellation) (held block_svid) (held block_band) (held block_first) (held block_samples) blocks table_count new }
+    ensures { Enters
+        (lent block_constellation) (lent block_svid) (lent block_band) (lent block_first) (lent block_samples) blocks table_count new.entry result }
 {
     let count = entries_after(
         block_constellation,
@@ -224,10 +191,7 @@ pub(crate) fn enter(
         block_samples,
         blocks,
         table_count,
-        new_constellation,
-        new_svid,
-        new_band,
-        new_count,
+        new,
     );
     merge_entries(
         block_constellation,
@@ -237,10 +201,7 @@ pub(crate) fn enter(
         block_samples,
         blocks,
         table_count,
-        new_constellation,
-        new_svid,
-        new_band,
-        new_count,
+        new,
         count,
     );
     count

@@ -3,6 +3,7 @@ ghost use Rattle.std.specs.Prelude.{◌≡◌, ◌+◌, ◌≤◌, ◌<◌, leng
 ghost use Rattle.lists.specs.Memory.{held, lent};
 ghost use Rattle.corrections_add.specs.Steps.{HeldBy, InLast, Mergeable, ReadingsWritten, StaysIn, TimesStay, lent_samples, shifted};
 
+use crate::samples::NewSamples;
 use corrections_directory::entry::signal_at;
 use corrections_table::sample::is_earlier;
 use numeric::order::{float, pattern};
@@ -12,14 +13,12 @@ fn times_stay(table_time: &[u64], first: usize, i: usize, t: f64) -> usize
     requires { (first ≤ i) × (i ≤ length table_time.now) }
     ensures { TimesStay table_time.now first i t result }
 {
-    let mut p = i;
-    while first < p {
-        if !is_earlier(t, float(table_time[p - 1])) {
-            return p;
+    for p in (first..i).rev() {
+        if !is_earlier(t, float(table_time[p])) {
+            return p + 1;
         }
-        p -= 1;
     }
-    p
+    first
 }
 
 // Returns how many of the first i old samples stay before a new one of the signal `new` at the time t. Compares only those of the last block, that of the entry e - 1.
@@ -51,17 +50,12 @@ fn old_stay(
     times_stay(table_time, first, i, t)
 }
 
-// Moves the count values from the place first on up by so many places, the last of them first.
+// Moves the count values from the place first on up by so many places.
 fn shift(d: &mut [u64], first: usize, count: usize, by: usize)
     requires { first + count + by ≤ length d.old }
     ensures { d.new ≡ shifted first by count 0 d.old }
 {
-    let mut c = count;
-    while 0 < c {
-        c -= 1;
-        let x = d[first + c];
-        d[first + c + by] = x;
-    }
+    d.copy_within(first..first + count, first + by);
 }
 
 // Returns how many of the first e entries hold the first i samples: the last one goes if its block begins at i.
@@ -85,24 +79,18 @@ pub(crate) fn merge_readings(
     table_time: &mut [u64],
     table_metres: &mut [u64],
     table_count: usize,
-    new_constellation: &[u8],
-    new_svid: &[u16],
-    new_band: &[u32],
-    new_time: &[f64],
-    new_metres: &[f64],
-    new_count: usize,
+    new: NewSamples,
 )
-    requires { Mergeable block_constellation block_svid block_band block_first blocks (held table_time) (held table_metres) table_count
-        new_constellation new_svid new_band new_time new_metres new_count }
+    requires { Mergeable block_constellation block_svid block_band block_first blocks (held table_time) (held table_metres) table_count new }
     ensures { ReadingsWritten block_constellation block_svid block_band block_first blocks (lent table_time) (lent table_metres) table_count
-        (lent_samples new_count new_constellation new_svid new_band new_time new_metres) }
+        (lent_samples new.entry) }
 {
     let mut e = blocks;
     let mut i = table_count;
-    let mut j = new_count;
+    let mut j = new.count;
     while 0 < j {
-        let signal = signal_at(new_constellation, new_svid, new_band, j - 1);
-        let time = new_time[j - 1];
+        let signal = new.signal_at(j - 1);
+        let time = new.time[j - 1];
         let stay = old_stay(
             block_constellation,
             block_svid,
@@ -122,7 +110,7 @@ pub(crate) fn merge_readings(
         } else {
             j -= 1;
             table_time[i + j] = pattern(time);
-            table_metres[i + j] = pattern(new_metres[j]);
+            table_metres[i + j] = pattern(new.metres[j]);
         }
     }
 }

@@ -1,12 +1,12 @@
 -- What the two rearrangements leave: the number of the answer, the count of entries, and every lent column. Definitions only.
+use Rattle.std.specs.Prelude.{Result, Ok, Err, ⊤}
+use Rattle.numeric.specs.declared.refusal.Refusal.{Refusal}
 use Rattle.std.specs.Prelude.{ℕ, min, ◌≡◌, length}
 use Rattle.lists.specs.Memory.{before, after, Memory, LentNumbers}
 use Rattle.corrections_table.specs.Table.{Columns, lent_samples}
 use Rattle.corrections_directory.specs.Directory.{Blocks, entries_in, lent_blocks}
 use Rattle.corrections_directory.specs.Read.{ReadTable}
 use Rattle.corrections_directory.specs.Rearrange.{Filed, unfiled, entries_are, filed_of, filed_number, filed_count, filed_columns, Listed, unlisted, samples_are, listed_of, listed_number, listed_columns}
-use Rattle.corrections_convert.specs.declared.directory_of.Filing.{Filing}
-use Rattle.corrections_convert.specs.declared.signals_of.Listing.{Listing}
 
 -- the directory of a table: the number, the count of entries and the columns afterwards are those of the outcome
 pub record Files (o : Filed) (number m m' : ℕ) (l l' : Blocks) : Type 0 where
@@ -65,19 +65,19 @@ ListsIn table t number = Lists (lent_listing table t) number t.before t.after
 -- ---- the answers
 
 -- the answer of a rearrangement into a directory
-abbrev pub filing_of : Filed → Filing
-filing_of (unfiled r) = Filing.Refused r
-filing_of (entries_are es) = Filing.Entries (length es)
+abbrev pub filing_of : Filed → Result ℕ Refusal
+filing_of (unfiled r) = Err r
+filing_of (entries_are es) = Ok (length es)
 
 -- the answer of the way back
-abbrev pub listing_of : Listed → Listing
-listing_of (unlisted r) = Listing.Refused r
-listing_of (samples_are t) = Listing.Listed
+abbrev pub listing_of : Listed → Result ⊤ Refusal
+listing_of (unlisted r) = Err r
+listing_of (samples_are t) = Ok tt
 
 -- the answer and the directory after the call are those of the outcome
-abbrev pub FiledAs : ℕ → Columns → LentDirectory → Filing → Type 0
+abbrev pub FiledAs : ℕ → Columns → LentDirectory → Result ℕ Refusal → Type 0
 FiledAs n t l a = (a ≡ filing_of (lent_filing n t l)) × (l.after ≡ filed_columns (lent_filing n t l) l.before)
 
 -- the answer and the signals after the call are those of the outcome
-abbrev pub ListedAs : ReadTable → LentSignals → Listing → Type 0
+abbrev pub ListedAs : ReadTable → LentSignals → Result ⊤ Refusal → Type 0
 ListedAs table t a = (a ≡ listing_of (lent_listing table t)) × (t.after ≡ listed_columns (lent_listing table t) t.before)

@@ -2,30 +2,10 @@
 use Rattle.std.specs.Prelude.{ℕ, zero, suc, ◌+◌, ◌^◌, ◌≤◌, ◌<◌, ◌≡◌, true, List, [], length, get_or}
 use Rattle.std.specs.Borrow.{Bor}
 use Rattle.lists.specs.Memory.{before, after, LentNumbers}
-use Rattle.numeric.specs.Refusal.{number_of}
 use Rattle.corrections_table.specs.Table.{blank, sorted}
 use Rattle.corrections_table.specs.declared.sample.Sample.{Sample}
 use Rattle.corrections_directory.specs.Directory.{Blocks, Entry, entries_from, entry_rows, lent_blocks}
 use Rattle.corrections_directory.specs.Rearrange.{entries_with}
-use Rattle.corrections_convert.specs.declared.directory_of.Filing.{Filing}
-use Rattle.corrections_convert.specs.declared.signals_of.Listing.{Listing}
-
--- ---- the answers
-
--- 0, or the number of the refusal
-abbrev pub filing_number : Filing → ℕ
-filing_number (Filing.Refused r) = number_of r
-filing_number (Filing.Entries k) = 0
-
--- how many entries there are afterwards, m before
-abbrev pub filing_count : Filing → ℕ → ℕ
-filing_count (Filing.Refused r) m = m
-filing_count (Filing.Entries k) m = k
-
--- 0, or the number of the refusal
-abbrev pub listing_number : Listing → ℕ
-listing_number (Listing.Refused r) = number_of r
-listing_number Listing.Listed = 0
 
 -- ---- from a table to its directory
 

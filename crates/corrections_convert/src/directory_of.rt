@@ -1,5 +1,5 @@
 // The directory of a sorted table.
-ghost use Rattle.std.specs.Prelude.{◌≡◌, ◌≤◌, ◌<◌, min, length};
+ghost use Rattle.std.specs.Prelude.{◌≡◌, ◌≤◌, ◌<◌, length};
 ghost use Rattle.lists.specs.Memory.{held, lent};
 ghost use Rattle.corrections_table.specs.Lent.{columns_before};
 ghost use Rattle.corrections_convert.specs.Lent.{FiledAs, lent_directory};
@@ -7,20 +7,6 @@ ghost use Rattle.corrections_convert.specs.Steps.{Run, SignalsHold, WritesEntrie
 
 use corrections_table::sample::{capacity_of, is_sound};
 use numeric::refusal::Refusal;
-
-// The answer: why nothing was written, or how many entries the directory has.
-#[derive(Clone, Copy)]
-pub enum Filing {
-    Refused(Refusal),
-    Entries(usize),
-}
-
-// Returns the lesser of a and b.
-pub(crate) fn lesser(a: usize, b: usize) -> usize
-    ensures { result ≡ min a b }
-{
-    if a < b { a } else { b }
-}
 
 // Returns how many entries the directory's columns have room for.
 fn entry_room(
@@ -32,16 +18,10 @@ fn entry_room(
 ) -> usize
     ensures { result ≡ length (entries_before block_constellation block_svid block_band block_first block_samples) }
 {
-    lesser(
-        block_constellation.len(),
-        lesser(
-            block_svid.len(),
-            lesser(
-                block_band.len(),
-                lesser(block_first.len(), block_samples.len()),
-            ),
-        ),
-    )
+    let places = block_first.len().min(block_samples.len());
+    block_constellation
+        .len()
+        .min(block_svid.len().min(block_band.len().min(places)))
 }
 
 // Returns where the samples of the signal at the place i end.
@@ -52,14 +32,12 @@ fn run_end(constellation: &[u8], svid: &[u16], band: &[u32], i: usize, table_cou
     let c = constellation[i];
     let v = svid[i];
     let b = band[i];
-    let mut j = i + 1;
-    while j < table_count {
+    for j in i + 1..table_count {
         if (constellation[j] != c) | (svid[j] != v) | (band[j] != b) {
             return j;
         }
-        j += 1;
     }
-    j
+    table_count
 }
 
 // Writes an entry for each run of one signal, whatever sorted table the signals are of, and returns how many there are.
@@ -107,22 +85,20 @@ pub fn directory_of(
     block_band: &mut [u32],
     block_first: &mut [usize],
     block_samples: &mut [usize],
-) -> Filing
+) -> Result<usize, Refusal>
     ensures { let t = columns_before constellation svid band table_time table_metres in
         FiledAs table_count t (lent_directory (lent block_constellation) (lent block_svid) (lent block_band) (lent block_first) (lent block_samples) t) result }
 {
-    let room = lesser(
-        entry_room(
-            block_constellation,
-            block_svid,
-            block_band,
-            block_first,
-            block_samples,
-        ),
-        capacity_of(constellation, svid, band, table_time, table_metres),
+    let entries = entry_room(
+        block_constellation,
+        block_svid,
+        block_band,
+        block_first,
+        block_samples,
     );
+    let room = entries.min(capacity_of(constellation, svid, band, table_time, table_metres));
     if room < table_count {
-        return Filing::Refused(Refusal::TooMany);
+        return Err(Refusal::TooMany);
     }
     if !is_sound(
         constellation,
@@ -132,9 +108,9 @@ pub fn directory_of(
         table_metres,
         table_count,
     ) {
-        return Filing::Refused(Refusal::RecordOutOfRange);
+        return Err(Refusal::RecordOutOfRange);
     }
-    Filing::Entries(file_all(
+    Ok(file_all(
         constellation,
         svid,
         band,

@@ -2,6 +2,5 @@
 // The columns have the names of the C header; constellation, svid and band are those of the signals, one place for each sample.
 #![tactic(auto)]
 
-pub mod answers;
 pub mod directory_of;
 pub mod signals_of;

@@ -5,3 +5,4 @@ pub mod Rearrange
 pub mod Series
 pub mod Steps
 pub mod Read
+pub mod Table

@@ -20,11 +20,15 @@ pub record Filled (places first count : ℕ) : Type 0 where
   pub filled : 0 < count
   pub inside : first + count ≤ places
 
--- a block of count times from the place first on, with no NaN's pattern among them
-pub record Timed (ts : List ℕ) (first count : ℕ) : Type 0 where
+-- a block of count elements from the place first on, with no NaN's pattern among them
+pub record Timed {A : Type 0} (is_nan : A → Bool) (ts : List A) (first count : ℕ) : Type 0 where
   pub filled : 0 < count
   pub inside : first + count ≤ length ts
-  pub numbers : (j : ℕ) → first ≤ j → j < first + count → is_nan_pattern (get_or ts j 0) ≡ false
+  pub numbers : (j : ℕ) (d : A) → first ≤ j → j < first + count → is_nan (get_or ts j d) ≡ false
+
+-- no NaN's pattern is among the first n elements
+abbrev pub Numbers : {A : Type 0} → (A → Bool) → List A → ℕ → Type 0
+Numbers {A} is_nan ts n = (j : ℕ) (d : A) → j < n → is_nan (get_or ts j d) ≡ false
 
 -- each of the first m blocks, by its first place and its count, is so
 pub record EachBlock (P : ℕ → ℕ → Type 0) (firsts counts : List ℕ) (m : ℕ) : Type 0 where

@@ -1,60 +1,39 @@
 // The entries of a directory in its columns: their satellites, and how many the columns have room for.
-ghost use Rattle.std.specs.Prelude.{◌≡◌, ◌^◌, ◌<◌, min};
+ghost use Rattle.std.specs.Prelude.{◌≡◌, ◌^◌, ◌<◌};
 ghost use Rattle.corrections_directory.specs.Directory.{block_capacity};
-ghost use Rattle.corrections_directory.specs.Read.{blocks_before};
+ghost use Rattle.corrections_directory.specs.Table.{columns_of};
 ghost use Rattle.corrections_directory.specs.Steps.{InSignals, signal_at};
 
+use crate::element::Element;
 use signal::signal::signal_of;
 
-// Returns the lesser of a and b.
-fn lesser(a: usize, b: usize) -> usize
-    ensures { result ≡ min a b }
-{
-    if a < b { a } else { b }
+// A directory in columns, of which the first `blocks` entries count, and the columns of times and corrections, of which the first table_count samples count.
+#[derive(Clone, Copy)]
+pub struct Table<'a, T> {
+    pub block_constellation: &'a [u8],
+    pub block_svid: &'a [u16],
+    pub block_band: &'a [u32],
+    pub block_first: &'a [usize],
+    pub block_samples: &'a [usize],
+    pub blocks: usize,
+    pub table_time: &'a [T],
+    pub table_metres: &'a [T],
+    pub table_count: usize,
 }
 
-// Returns the shortest of the lengths of seven columns, at most 2,048.
-pub(crate) fn shortest(
-    constellation: usize,
-    svid: usize,
-    band: usize,
-    first: usize,
-    samples: usize,
-    time: usize,
-    metres: usize,
-) -> usize
-    ensures { result ≡ min 2048 (min (min constellation (min svid (min band (min first samples)))) (min time metres)) }
-{
-    let entries = lesser(
-        constellation,
-        lesser(svid, lesser(band, lesser(first, samples))),
-    );
-    let readings = lesser(time, metres);
-    lesser(2048, lesser(entries, readings))
-}
-
-// Returns the capacity: the length of the shortest of the seven columns, at most 2,048.
-pub fn block_capacity(
-    block_constellation: &[u8],
-    block_svid: &[u16],
-    block_band: &[u32],
-    block_first: &[usize],
-    block_samples: &[usize],
-    table_time: &[f64],
-    table_metres: &[f64],
-) -> usize
-    ensures { result ≡ block_capacity (blocks_before
-        block_constellation block_svid block_band block_first block_samples table_time table_metres) }
-{
-    shortest(
-        block_constellation.len(),
-        block_svid.len(),
-        block_band.len(),
-        block_first.len(),
-        block_samples.len(),
-        table_time.len(),
-        table_metres.len(),
-    )
+impl<'a, T: Element> Table<'a, T> {
+    // Returns the capacity: the length of the shortest of the seven columns, at most 2,048.
+    pub fn capacity(self) -> usize
+        ensures { result ≡ block_capacity (columns_of T.floats self.entry) }
+    {
+        let places = self.block_first.len().min(self.block_samples.len());
+        let bands = self.block_band.len().min(places);
+        let entries = self
+            .block_constellation
+            .len()
+            .min(self.block_svid.len().min(bands));
+        2048usize.min(entries.min(self.table_time.len().min(self.table_metres.len())))
+    }
 }
 
 // Returns the signal at the place i of three columns, as one number.

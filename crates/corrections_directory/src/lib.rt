@@ -3,6 +3,7 @@
 // `blocks` entries count. table_time and table_metres hold the times and corrections: the first table_count samples count.
 #![tactic(auto)]
 
+pub mod element;
 pub mod entry;
 pub mod patterns;
 pub mod sound;

@@ -1,5 +1,8 @@
 -- An epoch's samples are in range, and adding them is adding the epoch. Assumes nothing.
-use mathlib.Core.Path.{◌≡◌, refl, ap, ◌∙◌, subst}
+use Rattle.numeric.specs.Refusal.{answer_number}
+use Rattle.std.specs.Prelude.{Option, Result, Ok, Err, ⊤}
+use Rattle.corrections_add.specs.declared.add.Counts.{Counts}
+use mathlib.Core.Path.{◌≡◌, refl, ap, subst}
 use mathlib.Core.List.{List, [], ◌∷◌, ◌++◌}
 use mathlib.Core.Bool.{Bool, true, false, cond, not, ◌&&◌, ◌||◌}
 use Prim.Native.Nat.{ℕ, ◌+◌, ◌*◌, ◌≤◌, ◌<◌}
@@ -16,18 +19,17 @@ use Rattle.lists.specs.Walk.{every, collect, Holds}
 use Rattle.numeric.specs.Rules.{ruled}
 use Rattle.numeric.specs.Real.{abs, in_range}
 use Rattle.numeric.specs.declared.vec3.Vec3.{Vec3}
+use Rattle.numeric.specs.Vec3.{vector_in_range}
 use Rattle.numeric.specs.declared.refusal.Refusal.{Refusal}
 use Rattle.numeric.specs.declared.refusal.Refusal.TheVariants.{TooMany, SettingOutOfRange, RecordOutOfRange, TableFull}
 use Rattle.corrections_table.specs.Table.{ranged}
 use Rattle.corrections_table.specs.Add.{counted_samples}
 use Rattle.corrections_table.specs.declared.add.Samples.{Samples}
-use Rattle.corrections_table.specs.declared.add.Test.TheVariants.{Refused, Passed}
 use Rattle.corrections_table.proofs.TableLaws.{and_left, and_right}
 use Rattle.corrections_table.proofs.SmallLaws.{Small, range_small}
 use Rattle.corrections_directory.specs.Directory.{Blocks, Directory, sound_directory}
-use Rattle.corrections_add.specs.Add.{PatternsAfter, Placed, Places, add_in, added_in, addition_number, addition_of, directory_with, entries_now, placed_of, refused_in, samples_now, test_in}
-use Rattle.corrections_add.specs.declared.add.Addition.{Addition}
-use Rattle.corrections_epoch.specs.Record.{ranges_of, states_count, vector_in_range, range_in_range}
+use Rattle.corrections_add.specs.Add.{PatternsAfter, Placed, Places, add_in, added_in, addition_of, directory_with, entries_now, placed_of, refused_in, samples_now, test_in}
+use Rattle.corrections_epoch.specs.Record.{ranges_of, states_of, range_in_range}
 use Rattle.corrections_epoch.specs.Raw.{raws_of}
 use Rattle.corrections_epoch.specs.Sample.{group, clock_of, kept, corrected_sample, corrected, sample_at, samples_of, epoch_samples}
 use Rattle.corrections_epoch.specs.AddEpoch.{too_many, settings_in_range, records_in_range, epoch_placed}
@@ -102,7 +104,7 @@ module _ (time max : Float) (t : in_range time ≡ true) (m : in_range max ≡ t
       go r true = unfold every in refl
       go r false = corrected-ranged r (clock_of (group r.constellation raws))
 
-pub time-in-range : (e : BaseEpoch) (s : States) (base rover : Vec3) → records_in_range e s base rover ≡ true → in_range e.time ≡ true
+pub time-in-range : (e : BaseEpoch) (s : Option States) (base rover : Vec3) → records_in_range e s base rover ≡ true → in_range e.time ≡ true
 unfolding records_in_range
 time-in-range e s base rover q =
     let p = vector_in_range base && vector_in_range rover in
@@ -111,36 +113,33 @@ time-in-range e s base rover q =
 
 -- ---- an epoch that is refused before its samples are made, and one that is not
 -- the samples of the raw corrections are the epoch's
-pub epoch-holds : (e : BaseEpoch) (s : States) (base rover : Vec3) (set : Settings) (m : ℕ) → m ≡ states_count s → (raws : Raws) → Holds raws.count raws.raws (raws_of set base rover (take m s.states) (ranges_of e))
+pub epoch-holds : (e : BaseEpoch) (s : Option States) (base rover : Vec3) (set : Settings) (raws : Raws) → Holds raws.count raws.raws (raws_of set base rover (states_of s) (ranges_of e))
     → (new : Samples) → Holds new.count new.samples (samples_of e.time set.max_correction (take raws.count raws.raws)) → Holds new.count new.samples (epoch_samples base rover set e s)
 unfolding epoch_samples
-epoch-holds e s base rover set m em raws hr new hs =
-    subst (λ (l : List Raw). Holds new.count new.samples (samples_of e.time set.max_correction l))
-    (hr.all ∙ ap (λ (k : ℕ). raws_of set base rover (take k s.states) (ranges_of e)) em)
-    hs
+epoch-holds e s base rover set raws hr new hs = subst (λ (l : List Raw). Holds new.count new.samples (samples_of e.time set.max_correction l)) hr.all hs
 
 -- they are in range
-counted-ranged : (m n room : ℕ) (e : BaseEpoch) (s : States) (base rover : Vec3) (set : Settings) → PassedRecords m n room e s base rover set → (new : Samples) → Holds new.count new.samples (epoch_samples base rover set e s) → every ranged (counted_samples new) ≡ true
+counted-ranged : (m n room : ℕ) (e : BaseEpoch) (s : Option States) (base rover : Vec3) (set : Settings) → PassedRecords m n room e s base rover set → (new : Samples) → Holds new.count new.samples (epoch_samples base rover set e s) → every ranged (counted_samples new) ≡ true
 unfolding epoch_samples settings_in_range
 counted-ranged m n room e s base rover set p new h =
     rw h.all (samples-ranged e.time set.max_correction (time-in-range e s base rover p.records) (and_right (in_range set.max_gap) _ p.settings) _)
 
 -- what a call leaves is said by the outcome
-pub told_same : {o o' : Placed} {r : Addition} {m n : ℕ} {l l' : Blocks} (ts xs ts' xs' : List ℕ) → o ≡ o'
-    → (r ≡ addition_of o) × (Places o (addition_number r) m (entries_now r m) n (samples_now r n) l l' × PatternsAfter o ts xs ts' xs')
-    → (r ≡ addition_of o') × (Places o' (addition_number r) m (entries_now r m) n (samples_now r n) l l' × PatternsAfter o' ts xs ts' xs')
+pub told_same : {o o' : Placed} {r : Result Counts Refusal} {m n : ℕ} {l l' : Blocks} (ts xs ts' xs' : List ℕ) → o ≡ o'
+    → (r ≡ addition_of o) × (Places o (answer_number r) m (entries_now r m) n (samples_now r n) l l' × PatternsAfter o ts xs ts' xs')
+    → (r ≡ addition_of o') × (Places o' (answer_number r) m (entries_now r m) n (samples_now r n) l l' × PatternsAfter o' ts xs ts' xs')
 told_same ts xs ts' xs' e a = rw (← e) a
 
 pub told-nothing : {o : Placed} (r : Refusal) (m n : ℕ) (l : Blocks) (ts xs : List ℕ) → refused_in r ≡ o
-    → (Addition.Refused r ≡ addition_of o) × (Places o (addition_number (Addition.Refused r)) m m n n l l × PatternsAfter o ts xs ts xs)
+    → (Err r ≡ addition_of o) × (Places o (answer_number {A = Counts} (Err r)) m m n n l l × PatternsAfter o ts xs ts xs)
 told-nothing r m n l ts xs e = rw (← e) (refl, (record { number_is = refl; entries-are = refl; samples-are = refl; columns = refl }, (refl, refl)))
 
-module _ (m n room : ℕ) (d : Directory) (e : BaseEpoch) (s : States) (base rover : Vec3) (set : Settings) where
-  pub placed-refused : (r : Refusal) → Refused r ≡ records_test m n room e s base rover set → refused_in r ≡ epoch_placed m n room d e s base rover set
+module _ (m n room : ℕ) (d : Directory) (e : BaseEpoch) (s : Option States) (base rover : Vec3) (set : Settings) where
+  pub placed-refused : (r : Refusal) → Err r ≡ records_test m n room e s base rover set → refused_in r ≡ epoch_placed m n room d e s base rover set
   unfolding records_test epoch_placed ruled
   placed-refused r q = go (ltb room m || too_many n room e s) (settings_in_range set) (records_in_range e s base rover) q
     where
-      go : (a b x : Bool) → Refused r ≡ cond a (Refused TooMany) (cond (not b) (Refused SettingOutOfRange) (cond (not x) (Refused RecordOutOfRange) Passed))
+      go : (a b x : Bool) → ◌≡◌ {A = Result ⊤ Refusal} (Err r) (cond a (Err TooMany) (cond (not b) (Err SettingOutOfRange) (cond (not x) (Err RecordOutOfRange) (Ok tt))))
           → refused_in r
           ≡ cond a (refused_in TooMany)
           (cond (not b) (refused_in SettingOutOfRange)
@@ -158,7 +157,7 @@ module _ (m n room : ℕ) (d : Directory) (e : BaseEpoch) (s : States) (base rov
         rw (le-ltb room m p.few-entries, le-ltb room n p.few, le-ltb 64 new.count h.room, counted-ranged m n room e s base rover set p new h, h.all, p.not_many, p.settings, p.records, ← h.count) (go (sound_directory d) (ltb room (n + new.count)))
       where
         go : (x y : Bool)
-            → placed_of (cond (not (x && true)) (Refused RecordOutOfRange) (cond y (Refused TableFull) Passed)) (directory_with d (epoch_samples base rover set e s))
+            → placed_of (cond (not (x && true)) (Err RecordOutOfRange) (cond y (Err TableFull) (Ok tt))) (directory_with d (epoch_samples base rover set e s))
             ≡ cond (not x) (refused_in RecordOutOfRange) (cond y (refused_in TableFull) (added_in (directory_with d (epoch_samples base rover set e s))))
         go true true = refl
         go true false = refl

@@ -1,4 +1,5 @@
 -- What the proofs of more than one function use, and the theorems.
+pub mod EveryLaws
 pub mod RawLaws
 pub mod SampleLaws
 pub mod TestLaws

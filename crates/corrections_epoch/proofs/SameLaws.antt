@@ -1,4 +1,5 @@
 -- For every sorted table and its directory, with a directory lent as long as the columns, an epoch comes to the same: the same refusal, or the same table. Assumes nothing.
+use Rattle.std.specs.Prelude.{Option}
 use mathlib.Core.Path.{◌≡◌, refl, sym, ap, ◌∙◌}
 use mathlib.Core.List.{List}
 use mathlib.Core.Bool.{Bool, true, false, cond, not, ◌&&◌, ◌||◌}
@@ -28,7 +29,7 @@ use Rattle.corrections_epoch.specs.declared.record.States.{States}
 use Rattle.corrections_epoch.specs.declared.record.Settings.{Settings}
 
 -- a directory that has no more entries than there are samples adds nothing to number 2
-many-same : (m n room : ℕ) (e : BaseEpoch) (s : States) → m ≤ n → (ltb room m || too_many n room e s) ≡ too_many n room e s
+many-same : (m n room : ℕ) (e : BaseEpoch) (s : Option States) → m ≤ n → (ltb room m || too_many n room e s) ≡ too_many n room e s
 unfolding too_many
 many-same m n room e s h = go (ltb room m) refl
   where
@@ -37,7 +38,7 @@ many-same m n room e s h = go (ltb room m) refl
     go false q = refl
 
 -- t the n samples of a sorted table, with svids and bands of their columns' bits
-pub epoch-same : (t : List Sample) (n room : ℕ) (e : BaseEpoch) (s : States) (base rover : Vec3) (set : Settings) → every narrow t ≡ true → sorted t ≡ true → length t ≤ n
+pub epoch-same : (t : List Sample) (n room : ℕ) (e : BaseEpoch) (s : Option States) (base rover : Vec3) (set : Settings) → every narrow t ≡ true → sorted t ≡ true → length t ≤ n
     → flat_outcome (epoch_placed (length (directory_of t).entries) n room (directory_of t) e s base rover set) ≡ added_of n room t e s base rover set
 unfolding epoch_placed added_of ruled
 epoch-same t n room e s base rover set w r l =

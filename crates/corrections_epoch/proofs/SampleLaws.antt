@@ -1,22 +1,22 @@
 -- The groups of an epoch, their clocks, and what a raw correction gives by the way that the code took. Assumes nothing.
+use Rattle.std.specs.Prelude.{Option, Some, None}
 use mathlib.Core.Path.{◌≡◌, refl, sym, ap, ◌∙◌}
 use mathlib.Core.List.{List, [], ◌∷◌, ◌++◌}
-use mathlib.Core.Bool.{Bool, true, false, cond, not, and-false}
+use mathlib.Core.Bool.{Bool, true, false, cond}
 use Prim.Native.Nat.{ℕ, ◌+◌, ◌≤◌, ◌<◌}
 use native.Mathlib.Omega.{arith}
 use borrow.Author.Tests.{lt-ltb, le-ltb, lt-leb, le-leb, eq-eqb, ne_eqb, ltb-true, ltb-false}
 use lib.Dec.{ltb, eqb}
 use lib.ListN.{length, get_or, take, set, length-map, length-set}
 use lib.Seq.{take_all, get_or-set_same, get_or-set_other}
-use lib.Ieee.{Float, nan, inf, fin, lt, add, sub, neg}
+use lib.Ieee.{Float}
 use Rattle.exact.specs.Float.{◌⊖◌, bits}
 use Rattle.lists.specs.Walk.{collect}
 use Rattle.numeric.specs.Order.{pattern_of}
-use Rattle.numeric.specs.Real.{abs}
 use Rattle.median.specs.Sorted.{median_of}
 use Rattle.corrections_table.specs.declared.sample.Sample.{Sample}
 use Rattle.corrections_epoch.specs.Sample.{of_constellation, group, patterns_of, clock_of, kept, corrected_sample, corrected, sample_at}
-use Rattle.corrections_epoch.specs.Steps.{clock_or_nan}
+use Rattle.corrections_epoch.specs.Steps.{clock_by}
 use Rattle.corrections_epoch.specs.declared.raw.Raw.{Raw}
 
 -- ---- a group
@@ -41,36 +41,26 @@ group-patterns c (r ∷ l) = go (eqb r.constellation c) (group-patterns c l)
     go false e = e
 
 -- ---- the clock of a group, by the patterns of its values
-pub clock-none : (v : List ℕ) → length v < 3 → nan ≡ clock_or_nan v
-unfolding clock_or_nan
+pub clock-none : (v : List ℕ) → length v < 3 → None ≡ clock_by v
+unfolding clock_by
 clock-none v h = rw (lt-ltb (length v) 3 h)
 
-pub clock-some : (v : List ℕ) → length v ≤ 64 → {b : ℕ} {x : Float} → 3 ≤ length v → b ≡ median_of (take 64 v) → x ≡ bits b → x ≡ clock_or_nan v
-unfolding clock_or_nan
-clock-some v few h e i = rw (le-ltb (length v) 3 h) (i ∙ ap bits (e ∙ ap median_of (take_all 64 v few)))
+pub clock-some : (v : List ℕ) → length v ≤ 64 → {b : ℕ} {x : Float} → 3 ≤ length v → b ≡ median_of (take 64 v) → x ≡ bits b → Some x ≡ clock_by v
+unfolding clock_by
+clock-some v few h e i = rw (le-ltb (length v) 3 h) (ap Some (i ∙ ap bits (e ∙ ap median_of (take_all 64 v few))))
 
-clock-group : (g : List Raw) → clock_or_nan (patterns_of g) ≡ cond (ltb (length g) 3) nan (clock_of g)
-unfolding clock_or_nan clock_of
-clock-group g = ap (λ (k : ℕ). cond (ltb k 3) nan (bits (median_of (patterns_of g)))) (length-map g (λ (r : Raw). pattern_of r.value))
+clock-group : (g : List Raw) → clock_by (patterns_of g) ≡ cond (ltb (length g) 3) None (Some (clock_of g))
+unfolding clock_by clock_of
+clock-group g = ap (λ (k : ℕ). cond (ltb k 3) None (Some (bits (median_of (patterns_of g))))) (length-map g (λ (r : Raw). pattern_of r.value))
 
 -- ---- what a raw correction gives
-sub-nan : (x : Float) → x ⊖ nan ≡ nan
-unfolding sub add neg
-sub-nan nan = refl
-sub-nan (inf s) = refl
-sub-nan (fin s m e) = refl
-
-never-kept : (max : Float) → kept max nan ≡ false
-unfolding kept
-never-kept max = and-false (not (lt max (abs nan)))
-
 module _ (time max : Float) (raws : List Raw) (r : Raw) where
   pub sample-high : 8 ≤ r.constellation → sample_at time max raws r ≡ []
   unfolding sample_at
   sample-high h = rw (le-leb 8 r.constellation h)
 
-  module _ (h : r.constellation < 8) (clock : Float) (ec : clock ≡ clock_or_nan (patterns_of (group r.constellation raws))) {b : Bool} (eb : b ≡ kept max (r.value ⊖ clock)) where
-    by-group : {l : List Sample} → (ltb (length (group r.constellation raws)) 3 ≡ true → [] ≡ l) → (clock ≡ clock_of (group r.constellation raws) → corrected time max r clock ≡ l)
+  module _ (h : r.constellation < 8) {clock : Option Float} (ec : clock ≡ clock_by (patterns_of (group r.constellation raws))) where
+    by-group : {l : List Sample} → (clock ≡ None → [] ≡ l) → (clock ≡ Some (clock_of (group r.constellation raws)) → corrected time max r (clock_of (group r.constellation raws)) ≡ l)
         → sample_at time max raws r ≡ l
     unfolding sample_at
     by-group {l} low high = rw (lt-leb 8 r.constellation h) (go (ltb (length g) 3) refl)
@@ -79,42 +69,42 @@ module _ (time max : Float) (raws : List Raw) (r : Raw) where
         g = group r.constellation raws
 
         go : (t : Bool) → ltb (length g) 3 ≡ t → cond t [] (corrected time max r (clock_of g)) ≡ l
-        go true e = low e
-        go false e = let s : clock ≡ clock_of g = ec ∙ clock-group g ∙ rw e in rw (← s) (high s)
+        go true e = low (ec ∙ clock-group g ∙ rw e)
+        go false e = high (ec ∙ clock-group g ∙ rw e)
 
-    pub sample-dropped : b ≡ false → sample_at time max raws r ≡ []
-    unfolding corrected
-    sample-dropped t = by-group (λ e. refl) (λ e. rw (sym eb ∙ t))
+    pub sample-none : ((x : Float) → clock ≡ Some x → ⊥) → sample_at time max raws r ≡ []
+    sample-none n = by-group (λ e. refl) (λ e. absurd (n _ e))
 
-    pub sample-kept : b ≡ true → sample_at time max raws r ≡ corrected_sample time r (r.value ⊖ clock) ∷ []
-    unfolding corrected
-    sample-kept t = by-group low (λ e. rw (sym eb ∙ t))
-      where
-        low : ltb (length (group r.constellation raws)) 3 ≡ true → [] ≡ corrected_sample time r (r.value ⊖ clock) ∷ []
-        low e =
-            let n : clock ≡ nan = ec ∙ clock-group (group r.constellation raws) ∙ rw e in
-            let z : true ≡ false = sym t ∙ eb ∙ rw (n, sub-nan r.value) (never-kept max) in
-            absurd (let y : ◌≡◌ {A = ℕ} 0 1 = cc in omega arith)
+    module _ (x : Float) (some : clock ≡ Some x) {b : Bool} (eb : b ≡ kept max (r.value ⊖ x)) where
+      pub sample-dropped : b ≡ false → sample_at time max raws r ≡ []
+      unfolding corrected
+      sample-dropped t = by-group (λ e. refl) (λ e. let s : clock_of (group r.constellation raws) ≡ x = cc in rw (s, sym eb ∙ t))
+
+      pub sample-kept : b ≡ true → sample_at time max raws r ≡ corrected_sample time r (r.value ⊖ x) ∷ []
+      unfolding corrected
+      sample-kept t =
+          by-group (λ e. absurd (let z : ◌≡◌ {A = ℕ} 0 1 = cc in omega arith))
+          (λ e. let s : clock_of (group r.constellation raws) ≡ x = cc in rw (s, sym eb ∙ t))
 
 -- ---- the clocks of the constellations below c
-pub record Clocks (raws : List Raw) (clocks : List Float) (c : ℕ) : Type 0 where
+pub record Clocks (raws : List Raw) (clocks : List (Option Float)) (c : ℕ) : Type 0 where
   pub long : length clocks ≡ 8
   pub within : c ≤ 8
-  pub so_far : (j : ℕ) → j < c → get_or clocks j nan ≡ clock_or_nan (patterns_of (group j raws))
+  pub so_far : (j : ℕ) → j < c → get_or clocks j None ≡ clock_by (patterns_of (group j raws))
 
-pub clocks-more : (raws : List Raw) (clocks : List Float) (c : ℕ) (x : Float) → c < 8 → x ≡ clock_or_nan (patterns_of (group c raws)) → Clocks raws clocks c → Clocks raws (set clocks c x) (c + 1)
+pub clocks-more : (raws : List Raw) (clocks : List (Option Float)) (c : ℕ) (x : Option Float) → c < 8 → x ≡ clock_by (patterns_of (group c raws)) → Clocks raws clocks c → Clocks raws (set clocks c x) (c + 1)
 clocks-more raws clocks c x h e k =
     record { long = length-set clocks c x ∙ k.long; within = omega arith; so_far = λ j l. go j (ltb j c) refl l }
   where
     room : c < length clocks
     room = omega (arith, k.long)
 
-    go : (j : ℕ) (b : Bool) → ltb j c ≡ b → j < c + 1 → get_or (set clocks c x) j nan ≡ clock_or_nan (patterns_of (group j raws))
+    go : (j : ℕ) (b : Bool) → ltb j c ≡ b → j < c + 1 → get_or (set clocks c x) j None ≡ clock_by (patterns_of (group j raws))
     go j true q l =
         let w : j < c = ltb-true j c q in
         let ne : j ≡ c → ⊥ = λ (z : j ≡ c). omega arith in
-        get_or-set_other clocks c j x nan ne ∙ k.so_far j w
+        get_or-set_other clocks c j x None ne ∙ k.so_far j w
     go j false q l =
         let w : c ≤ j = ltb-false j c q in
         let z : j ≡ c = omega arith in
-        rw z (get_or-set_same clocks c x nan room ∙ e)
+        rw z (get_or-set_same clocks c x None room ∙ e)

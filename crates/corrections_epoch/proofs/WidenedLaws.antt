@@ -1,4 +1,5 @@
 -- A base epoch comes to what it came to where the bands of an old table were widened. Assumes nothing.
+use Rattle.std.specs.Prelude.{Option}
 use mathlib.Core.Path.{◌≡◌}
 use mathlib.Core.List.{List}
 use Prim.Native.Nat.{ℕ}
@@ -15,7 +16,7 @@ use Rattle.corrections_epoch.specs.declared.record.Settings.{Settings}
 
 -- a new column as long as the old one, so that there is as much room: the same refusal, or the same table
 pub added-widened : (n : ℕ) (cs vs narrow wide : List ℕ) (ts xs : List Float) → Roomy n narrow wide → length wide ≡ length narrow
-    → (e : BaseEpoch) (s : States) (base rover : Vec3) (set : Settings)
+    → (e : BaseEpoch) (s : Option States) (base rover : Vec3) (set : Settings)
     → added_of n (capacity (lent_samples cs vs (widened n narrow wide) ts xs)) (table_of n (lent_samples cs vs (widened n narrow wide) ts xs)) e s base rover set
     ≡ added_of n (capacity (lent_samples cs vs narrow ts xs)) (table_of n (lent_samples cs vs narrow ts xs)) e s base rover set
 added-widened n cs vs narrow wide ts xs r l e s base rover set = rw (capacity-widened n cs vs narrow wide ts xs r l, table-widened n cs vs narrow wide ts xs r)

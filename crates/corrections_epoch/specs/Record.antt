@@ -1,7 +1,7 @@
 -- The records that are handed over with a base epoch, those that count, and number 4 for each (docs/REFUSALS.md). Definitions only.
-use Rattle.std.specs.Prelude.{ℕ, Bool, cond, ◌&&◌, List, take}
+use Rattle.std.specs.Prelude.{ℕ, Bool, ◌&&◌, List, [], take, Option, Some, None}
 use Rattle.numeric.specs.Real.{in_range}
-use Rattle.numeric.specs.declared.vec3.Vec3.{Vec3}
+use Rattle.numeric.specs.Vec3.{vector_in_range}
 use Rattle.corrections_epoch.specs.declared.record.Range.{Range}
 use Rattle.corrections_epoch.specs.declared.record.BaseEpoch.{BaseEpoch}
 use Rattle.corrections_epoch.specs.declared.record.State.{State}
@@ -11,17 +11,15 @@ use Rattle.corrections_epoch.specs.declared.record.States.{States}
 abbrev pub ranges_of : BaseEpoch → List Range
 ranges_of e = take e.count e.ranges
 
--- how many states there are: none under the mark that there are none
-abbrev pub states_count : States → ℕ
-states_count s = cond s.present s.count 0
+-- how many states there are
+abbrev pub states_count : Option States → ℕ
+states_count None = 0
+states_count (Some s) = s.count
 
--- the states beside an epoch; those that lie beside the mark are not looked at
-abbrev pub states_of : States → List State
-states_of s = take (states_count s) s.states
-
--- each coordinate is finite and not above 1e9 in magnitude
-unfoldable pub vector_in_range : Vec3 → Bool
-vector_in_range p = in_range p.x && in_range p.y && in_range p.z
+-- the states beside an epoch, if there are any
+abbrev pub states_of : Option States → List State
+states_of None = []
+states_of (Some s) = take s.count s.states
 
 abbrev pub range_in_range : Range → Bool
 range_in_range r = in_range r.pseudorange

@@ -1,5 +1,5 @@
 -- The samples of an epoch (docs/SCOPE.md, "Corrections"; `build` of differential.rs, its loop over the constellations). Definitions only.
-use Rattle.std.specs.Prelude.{ℕ, Bool, cond, not, ◌&&◌, ◌||◌, List, [], ◌∷◌, map, eqb, leb, ltb, length, Float}
+use Rattle.std.specs.Prelude.{Option, ℕ, Bool, cond, not, ◌&&◌, ◌||◌, List, [], ◌∷◌, map, eqb, leb, ltb, length, Float}
 use Rattle.std.specs.Float.Ieee.{lt}
 use Rattle.std.specs.Float.Ieee.Scale.{finite}
 use Rattle.exact.specs.Float.{◌⊖◌, bits}
@@ -53,6 +53,6 @@ unfoldable pub samples_of : Float → Float → List Raw → List Sample
 samples_of time max raws = collect (sample_at time max raws) raws
 
 -- the samples of an epoch with its states
-unfoldable pub epoch_samples : Vec3 → Vec3 → Settings → BaseEpoch → States → List Sample
+unfoldable pub epoch_samples : Vec3 → Vec3 → Settings → BaseEpoch → Option States → List Sample
 epoch_samples base rover set e s =
     samples_of e.time set.max_correction (raws_of set base rover (states_of s) (ranges_of e))

@@ -7,12 +7,11 @@ ghost use Rattle.corrections_epoch.specs.Steps.{records_test};
 
 use crate::raw::raws_of;
 use crate::record::{
-    BaseEpoch, Settings, States, place_in_range, ranges_in_range, states_count, states_in_range,
+    BaseEpoch, Settings, States, ranges_in_range, states_count, states_in_range, states_of,
 };
 use crate::sample::samples_of;
-use corrections_add::add::{Addition, add};
-use corrections_directory::patterns::capacity_of;
-use corrections_table::add::Test;
+use corrections_add::add::{Counts, add};
+use corrections_directory::entry::Table;
 use numeric::real::in_range;
 use numeric::refusal::Refusal;
 use numeric::vec3::Vec3;
@@ -23,31 +22,31 @@ fn records_tested(
     table_count: usize,
     room: usize,
     epoch: BaseEpoch,
-    states: States,
+    states: Option<States>,
     base: Vec3,
     rover: Vec3,
     settings: Settings,
-) -> Test
+) -> Result<(), Refusal>
     ensures { result ≡ records_test blocks table_count room epoch states base rover settings }
 {
     let k = epoch.count;
     let j = states_count(states);
     if (room < blocks) | ((room < table_count) | (64 < k) | (64 < j)) {
-        return Test::Refused(Refusal::TooMany);
+        return Err(Refusal::TooMany);
     }
     if !(in_range(settings.max_gap) & in_range(settings.max_correction)) {
-        return Test::Refused(Refusal::SettingOutOfRange);
+        return Err(Refusal::SettingOutOfRange);
     }
-    if !(place_in_range(base) & place_in_range(rover) & in_range(epoch.time)) {
-        return Test::Refused(Refusal::RecordOutOfRange);
+    if !(base.is_in_range() & rover.is_in_range() & in_range(epoch.time)) {
+        return Err(Refusal::RecordOutOfRange);
     }
-    if !ranges_in_range(epoch, k) {
-        return Test::Refused(Refusal::RecordOutOfRange);
+    if !ranges_in_range(&epoch.ranges[..k]) {
+        return Err(Refusal::RecordOutOfRange);
     }
-    if !states_in_range(states, j) {
-        return Test::Refused(Refusal::RecordOutOfRange);
+    if !states_in_range(states_of(&states)) {
+        return Err(Refusal::RecordOutOfRange);
     }
-    Test::Passed
+    Ok(())
 }
 
 // Adds the epoch's corrections to the directory of `blocks` entries and `table_count` samples. Returns both counts. On refusal, returns it and changes nothing.
@@ -62,52 +61,52 @@ pub fn add_epoch(
     table_metres: &mut [u64],
     table_count: usize,
     epoch: BaseEpoch,
-    states: States,
+    states: Option<States>,
     base: Vec3,
     rover: Vec3,
     settings: Settings,
-) -> Addition
+) -> Result<Counts, Refusal>
     ensures { AddsBaseEpoch epoch states base rover settings result blocks table_count (lent_table
         (lent block_constellation) (lent block_svid) (lent block_band) (lent block_first) (lent block_samples) (lent table_time) (lent table_metres)) }
 {
-    let room = capacity_of(
+    let table = Table {
         block_constellation,
         block_svid,
         block_band,
         block_first,
         block_samples,
+        blocks,
         table_time,
         table_metres,
-    );
-    let test = records_tested(
+        table_count,
+    };
+    records_tested(
         blocks,
         table_count,
-        room,
+        table.capacity(),
         epoch,
         states,
         base,
         rover,
         settings,
+    )?;
+    let ranges = &epoch.ranges[..epoch.count];
+    let raws = raws_of(ranges, states_of(&states), base, rover, settings);
+    let samples = samples_of(
+        &raws.raws[..raws.count],
+        epoch.time,
+        settings.max_correction,
     );
-    match test {
-        Test::Refused(r) => Addition::Refused(r),
-        Test::Passed => {
-            let k = epoch.count;
-            let j = states_count(states);
-            let raws = raws_of(epoch, k, states, j, base, rover, settings);
-            let samples = samples_of(raws, epoch.time, settings.max_correction);
-            add(
-                block_constellation,
-                block_svid,
-                block_band,
-                block_first,
-                block_samples,
-                blocks,
-                table_time,
-                table_metres,
-                table_count,
-                samples,
-            )
-        }
-    }
+    add(
+        block_constellation,
+        block_svid,
+        block_band,
+        block_first,
+        block_samples,
+        blocks,
+        table_time,
+        table_metres,
+        table_count,
+        samples,
+    )
 }

@@ -1,9 +1,9 @@
 // The raw corrections of an epoch, before the base receiver's clock is removed.
-ghost use Rattle.std.specs.Prelude.{◌≡◌, ◌≤◌, take};
+ghost use Rattle.std.specs.Prelude.{◌≡◌, ◌≤◌, length};
 ghost use Rattle.lists.specs.Walk.{Holds};
 ghost use Rattle.corrections_epoch.specs.Raw as spec;
 
-use crate::record::{BaseEpoch, Range, Settings, State, States};
+use crate::record::{Range, Settings, State};
 use numeric::sight::{travel_angle, turned};
 use numeric::vec3::Vec3;
 use root::sqrt::sqrt;
@@ -28,10 +28,7 @@ pub struct Raws {
 pub(crate) fn is_enabled(settings: Settings, constellation: u8) -> bool
     ensures { result ≡ spec.enabled settings constellation }
 {
-    if constellation < 7 {
-        return settings.constellations[constellation as usize];
-    }
-    settings.constellations[7]
+    settings.constellations[(constellation as usize).min(7)]
 }
 
 // Checks that the state is that of the range's satellite and signal.
@@ -87,30 +84,24 @@ fn no_raws() -> Raws
     }
 }
 
-// Returns the raw corrections of the first n ranges by the first m states.
+// Returns the raw corrections of the ranges by the states.
 pub(crate) fn raws_of(
-    epoch: BaseEpoch,
-    n: usize,
-    states: States,
-    m: usize,
+    ranges: &[Range],
+    states: &[State],
     base: Vec3,
     rover: Vec3,
     settings: Settings,
 ) -> Raws
-    requires { (n ≤ 64) × (m ≤ 64) }
-    ensures { Holds result.count result.raws (spec.raws_of settings base rover (take m states.states) (take n epoch.ranges)) }
+    requires { length ranges.now ≤ 64 }
+    ensures { Holds result.count result.raws (spec.raws_of settings base rover states.now ranges.now) }
 {
     let mut out = no_raws();
-    let mut i: usize = 0;
-    while i < n {
-        let r = epoch.ranges[i];
+    for r in ranges {
         if is_enabled(settings, r.constellation) {
-            let mut j: usize = 0;
-            while j < m {
-                let s = states.states[j];
-                if is_same(s, r) {
+            for s in states {
+                if is_same(*s, *r) {
                     let k = out.count;
-                    let value = raw_value(base, rover, r, s);
+                    let value = raw_value(base, rover, *r, *s);
                     let q = Raw {
                         constellation: r.constellation,
                         svid: r.svid,
@@ -121,10 +112,8 @@ pub(crate) fn raws_of(
                     out.count = k + 1;
                     break;
                 }
-                j += 1;
             }
         }
-        i += 1;
     }
     out
 }

@@ -1,5 +1,5 @@
 // The records of a base epoch and of the satellite states beside it, and the settings.
-ghost use Rattle.std.specs.Prelude.{◌≡◌, ◌≤◌, take};
+ghost use Rattle.std.specs.Prelude.{◌≡◌, ◌≤◌};
 ghost use Rattle.lists.specs.Walk.{every};
 ghost use Rattle.corrections_epoch.specs.Record as spec;
 
@@ -35,10 +35,9 @@ pub struct State {
     pub modelled: f64,
 }
 
-// The states beside an epoch: the first `count` count, and none where `present` is false, the mark that there are no states.
+// The states beside an epoch: the first `count` of the states count.
 #[derive(Clone, Copy)]
 pub struct States {
-    pub present: bool,
     pub count: usize,
     pub states: [State; 64],
 }
@@ -52,57 +51,40 @@ pub struct Settings {
 }
 
 // Returns how many states there are.
-pub(crate) fn states_count(states: States) -> usize
+pub(crate) fn states_count(states: Option<States>) -> usize
     ensures { result ≡ spec.states_count states }
 {
-    if states.present { states.count } else { 0 }
+    states.map_or(0, |s| s.count)
 }
 
-// Checks that each component is in range.
-pub(crate) fn place_in_range(p: Vec3) -> bool
-    ensures { result ≡ spec.vector_in_range p }
+// Returns the states that count.
+pub(crate) fn states_of(states: &Option<States>) -> &[State]
+    requires { spec.states_count states.now ≤ 64 }
+    ensures { result.now ≡ spec.states_of states.now }
 {
-    in_range(p.x) & in_range(p.y) & in_range(p.z)
+    match states {
+        Some(s) => &s.states[..s.count],
+        None => &[],
+    }
 }
 
 // Checks rule 4 for the state.
 pub(crate) fn state_in_range(s: State) -> bool
     ensures { result ≡ spec.state_in_range s }
 {
-    place_in_range(s.position)
-        & place_in_range(s.velocity)
-        & in_range(s.clock)
-        & in_range(s.modelled)
+    s.position.is_in_range() & s.velocity.is_in_range() & in_range(s.clock) & in_range(s.modelled)
 }
 
-// Checks rule 4 for the first n ranges of the epoch.
-pub(crate) fn ranges_in_range(epoch: BaseEpoch, n: usize) -> bool
-    requires { n ≤ 64 }
-    ensures { result ≡ every spec.range_in_range (take n epoch.ranges) }
+// Checks rule 4 for the ranges.
+pub(crate) fn ranges_in_range(ranges: &[Range]) -> bool
+    ensures { result ≡ every spec.range_in_range ranges.now }
 {
-    let mut i: usize = 0;
-    while i < n {
-        let r = epoch.ranges[i];
-        if !in_range(r.pseudorange) {
-            return false;
-        }
-        i += 1;
-    }
-    true
+    ranges.iter().all(|r| in_range(r.pseudorange))
 }
 
-// Checks rule 4 for the first n states.
-pub(crate) fn states_in_range(states: States, n: usize) -> bool
-    requires { n ≤ 64 }
-    ensures { result ≡ every spec.state_in_range (take n states.states) }
+// Checks rule 4 for the states.
+pub(crate) fn states_in_range(states: &[State]) -> bool
+    ensures { result ≡ every spec.state_in_range states.now }
 {
-    let mut i: usize = 0;
-    while i < n {
-        let s = states.states[i];
-        if !state_in_range(s) {
-            return false;
-        }
-        i += 1;
-    }
-    true
+    states.iter().all(|s| state_in_range(*s))
 }

@@ -1,10 +1,15 @@
 -- Columns read into records, and the outcome of an entry. Assumes nothing.
-use mathlib.Core.Path.{◌≡◌, refl, sym, ap, subst, ◌∙◌}
+use Rattle.numeric.specs.Refusal.{answer_number}
+use Rattle.std.specs.Prelude.{Option, Some, None, Result}
+use Rattle.corrections_add.specs.declared.add.Counts.{Counts}
+use Rattle.numeric.specs.declared.refusal.Refusal.{Refusal}
+use Rattle.std.specs.Bool.{then_some}
+use mathlib.Core.Path.{◌≡◌, refl, sym, ap, ◌∙◌}
 use mathlib.Core.List.{List, []}
 use mathlib.Core.Bool.{Bool, true, false, cond, not, or-false, ◌&&◌, ◌||◌}
-use Prim.Native.Nat.{ℕ, ◌+◌, ◌*◌, ◌≤◌, ◌<◌}
+use Prim.Native.Nat.{ℕ, ◌+◌, ◌*◌, ◌≤◌}
 use native.Mathlib.Omega.{arith}
-use borrow.Author.Tests.{ltb-false, lt-ltb}
+use borrow.Author.Tests.{ltb-false, le-ltb}
 use lib.Dec.{ltb}
 use lib.ListN.{length, take}
 use lib.Ieee.{Float}
@@ -14,11 +19,11 @@ use Rattle.corrections_table.proofs.UnitLaws.{never}
 use Rattle.numeric.specs.Rules.{ruled}
 use Rattle.numeric.specs.Real.{in_range}
 use Rattle.numeric.specs.declared.vec3.Vec3.{Vec3}
+use Rattle.numeric.specs.Vec3.{vector_at, vector_in_range}
 use Rattle.numeric.specs.declared.refusal.Refusal.TheVariants.{TooMany, SettingOutOfRange, RecordOutOfRange, TableFull}
 use Rattle.corrections_directory.specs.Directory.{Blocks, Directory, block_capacity, directory_in, sound_directory}
-use Rattle.corrections_add.specs.Add.{PatternsAfter, Placed, Places, added_in, addition_number, addition_of, directory_with, entries_now, refused_in, samples_now}
-use Rattle.corrections_add.specs.declared.add.Addition.{Addition}
-use Rattle.corrections_epoch.specs.Record.{vector_in_range, range_in_range, ranges_of, state_in_range, states_count, states_of}
+use Rattle.corrections_add.specs.Add.{PatternsAfter, Placed, Places, added_in, addition_of, directory_with, entries_now, refused_in, samples_now}
+use Rattle.corrections_epoch.specs.Record.{range_in_range, ranges_of, state_in_range, states_count, states_of}
 use Rattle.corrections_epoch.specs.Raw.{raws_of}
 use Rattle.corrections_epoch.specs.Sample.{epoch_samples, samples_of}
 use Rattle.corrections_epoch.specs.AddEpoch.{too_many, settings_in_range, records_in_range, epoch_placed}
@@ -27,8 +32,13 @@ use Rattle.corrections_epoch.specs.declared.record.State.{State}
 use Rattle.corrections_epoch.specs.declared.record.BaseEpoch.{BaseEpoch}
 use Rattle.corrections_epoch.specs.declared.record.States.{States}
 use Rattle.corrections_epoch.specs.declared.record.Settings.{Settings}
-use Rattle.corrections_epoch_columns.specs.Epoch.{range_at, base_epoch_of, state_at, states_in, records_short, entry_in}
-use Rattle.corrections_epoch_columns.specs.Steps.{CountsWritten, EpochRead, StatesRead, ranges_short, states_short}
+use Rattle.corrections_epoch_columns.specs.Epoch.{LentBools, range_at, base_epoch_of, states_in, records_short, entry_in, settings_of}
+use Rattle.corrections_epoch_columns.specs.Short.{ranges_short, states_short}
+use Rattle.corrections_epoch_columns.specs.Steps.{CountsWritten, EpochRead, StatesRead}
+use Rattle.corrections_epoch_columns.specs.Columns.{columns_entry, ranges_held, ranges_lack, state_held, states_lack}
+use Rattle.corrections_epoch_columns.specs.declared.columns.RangeColumns.{RangeColumns}
+use Rattle.corrections_epoch_columns.specs.declared.columns.StateColumns.{StateColumns}
+use Rattle.lists.specs.Memory.{before, LentFloats}
 
 -- ---- columns that are long enough
 few : (k w : ℕ) → (ltb 64 k || ltb 64 w) ≡ false → (k ≤ 64) × (w ≤ 64)
@@ -128,36 +138,6 @@ states-in m sc sv sb sf e =
     let l = readable 0 [] [] [] [] m sc sv sb sf (by_both 0 [] [] [] [] m sc sv sb sf refl e) in
     (l.few-states, ((l.in-sc, l.in-sv), (l.in-sb, l.in_sf)))
 
--- how many of k are counted and read, b telling whether they are short
-pub short-many : (b : Bool) (k : ℕ) {count : ℕ} → count ≡ cond b 65 k → b ≡ true → 64 < count
-short-many b k c e = rw (c, e) (omega arith)
-
-pub long-count : (b : Bool) (k : ℕ) {count : ℕ} → count ≡ cond b 65 k → b ≡ false → count ≡ k
-long-count b k c e = rw (c, e) refl
-
-pub long-read : (b : Bool) (k : ℕ) {read : ℕ} → read ≡ cond (not b) k 0 → b ≡ false → read ≡ k
-long-read b k r e = rw (r, e) refl
-
--- the mark, which a refused count sets
-pub marked-many : (p b : Bool) (k : ℕ) {count : ℕ} (s : States) → s.present ≡ (p || b) → s.count ≡ count → count ≡ cond b 65 k → b ≡ true → 64 < states_count s
-marked-many true b k s m c h e = rw (m, c, h, e) (omega arith)
-marked-many false b k s m c h e = rw (m, c, h, e) (omega arith)
-
-pub marked-same : (p b : Bool) → b ≡ false → (p || b) ≡ p
-marked-same true b e = refl
-marked-same false b e = e
-
--- what is read lies in the columns
-pub ranges-read : (b : Bool) (k : ℕ) {read : ℕ} (rc rv rb : List ℕ) (rp : List Float) → b ≡ ranges_short k rc rv rb rp → read ≡ cond (not b) k 0
-    → (read ≤ 64) × (((read ≤ length rc) × (read ≤ length rv)) × ((read ≤ length rb) × (read ≤ length rp)))
-ranges-read true k rc rv rb rp e h = (omega arith, ((omega arith, omega arith), (omega arith, omega arith)))
-ranges-read false k rc rv rb rp e h = rw h (ranges_in k rc rv rb rp (sym e))
-
-pub states-read : (b : Bool) (m : ℕ) {read : ℕ} (sc sv sb : List ℕ) (sf : List Float) → b ≡ states_short m sc sv sb sf → read ≡ cond (not b) m 0
-    → (read ≤ 64) × (((read ≤ length sc) × (read ≤ length sv)) × ((read ≤ length sb) × (read * 8 ≤ length sf)))
-states-read true m sc sv sb sf e h = (omega arith, ((omega arith, omega arith), (omega arith, omega arith)))
-states-read false m sc sv sb sf e h = rw h (states-in m sc sv sb sf (sym e))
-
 -- ---- an epoch is known by what counts of it
 placed_by : ℕ → ℕ → ℕ → Directory → ℕ → Float → List Range → ℕ → List State → Vec3 → Vec3 → Settings → Placed
 placed_by m n room d k time ranges j states base rover set =
@@ -169,11 +149,11 @@ placed_by m n room d k time ranges j states base rover set =
     (added_in (directory_with d new)))))
 
 module _ (m n room : ℕ) (d : Directory) (base rover : Vec3) (set : Settings) where
-  placed_by_lem : (e : BaseEpoch) (s : States) → epoch_placed m n room d e s base rover set ≡ placed_by m n room d e.count e.time (ranges_of e) (states_count s) (states_of s) base rover set
+  placed_by_lem : (e : BaseEpoch) (s : Option States) → epoch_placed m n room d e s base rover set ≡ placed_by m n room d e.count e.time (ranges_of e) (states_count s) (states_of s) base rover set
   unfolding epoch_placed placed_by too_many records_in_range epoch_samples ruled
   placed_by_lem e s = refl
 
-  placed_same : (e e' : BaseEpoch) (s s' : States) → e.count ≡ e'.count → e.time ≡ e'.time → ranges_of e ≡ ranges_of e' → states_count s ≡ states_count s' → states_of s ≡ states_of s'
+  placed_same : (e e' : BaseEpoch) (s s' : Option States) → e.count ≡ e'.count → e.time ≡ e'.time → ranges_of e ≡ ranges_of e' → states_count s ≡ states_count s' → states_of s ≡ states_of s'
       → epoch_placed m n room d e s base rover set ≡ epoch_placed m n room d e' s' base rover set
   placed_same e e' s s' a b c f g =
       placed_by_lem e s
@@ -185,17 +165,18 @@ module _ (m n room : ℕ) (d : Directory) (base rover : Vec3) (set : Settings) w
       go k x l j y k' x' l' j' y' a b c f g = rw (a, b, c, f, g)
 
 -- ---- the outcome, way by way
-module _ (m n : ℕ) (l : Blocks) (ts xs : List ℕ) (time : Float) (k : ℕ) (rc rv rb : List ℕ) (rp : List Float) (present : Bool) (j : ℕ) (sc sv sb : List ℕ) (sf : List Float) (base rover : Vec3) (set : Settings) where
+module _ (m n : ℕ) (l : Blocks) (time : Float) (k : ℕ) (rc rv rb : List ℕ) (rp : List Float) (present : Bool) (j : ℕ) (sc sv sb : List ℕ) (sf : List Float) (base rover : Vec3) (set : Settings) where
   either : (z a b c : Bool) → (b || c) ≡ true → (z || (a || b || c)) ≡ true
   either true a b c e = refl
   either false true b c e = refl
   either false false b c e = e
 
-  -- more than 64 ranges or states are refused by 2
-  placed-many : (e : BaseEpoch) (s : States) → (ltb 64 e.count || ltb 64 (states_count s)) ≡ true
-      → epoch_placed m n (block_capacity l) (directory_in m n l) e s base rover set ≡ refused_in TooMany
-  unfolding epoch_placed too_many ruled
-  placed-many e s h = rw (either (ltb (block_capacity l) m) (ltb (block_capacity l) n) (ltb 64 e.count) (ltb 64 (states_count s)) h) refl
+  states-counted : states_count (states_in present j sc sv sb sf) ≡ cond present j 0
+  states-counted = go present
+    where
+      go : (p : Bool) → states_count (states_in p j sc sv sb sf) ≡ cond p j 0
+      go true = refl
+      go false = refl
 
   entry-unreadable : unreadable k rc rv rb rp (cond present j 0) sc sv sb sf ≡ true
       → refused_in TooMany ≡ entry_in m n (block_capacity l) (directory_in m n l) time k rc rv rb rp present j sc sv sb sf base rover set
@@ -205,70 +186,61 @@ module _ (m n : ℕ) (l : Blocks) (ts xs : List ℕ) (time : Float) (k : ℕ) (r
       go : (b : Bool) → (ltb 64 k || ltb 64 (cond present j 0) || b) ≡ true
           → refused_in TooMany ≡ cond b (refused_in TooMany) (epoch_placed m n (block_capacity l) (directory_in m n l) (base_epoch_of time k rc rv rb rp) (states_in present j sc sv sb sf) base rover set)
       go true e = refl
-      go false e = rw (either (ltb (block_capacity l) m) (ltb (block_capacity l) n) (ltb 64 k) (ltb 64 (cond present j 0)) (rw or-false at e))
+      go false e = rw (states-counted, either (ltb (block_capacity l) m) (ltb (block_capacity l) n) (ltb 64 k) (ltb 64 (cond present j 0)) (rw or-false at e))
 
-  -- w is how many states are read, as the code has it
-  module _ {w : ℕ} (ew : w ≡ cond present j 0) where
-    wanted-is : {b : Bool} → unreadable k rc rv rb rp w sc sv sb sf ≡ b → unreadable k rc rv rb rp (cond present j 0) sc sv sb sf ≡ b
-    wanted-is {b} h = subst (λ (x : ℕ). unreadable k rc rv rb rp x sc sv sb sf ≡ b) ew h
-
-  entry-added : (e : BaseEpoch) (s : States) → unreadable k rc rv rb rp (cond present j 0) sc sv sb sf ≡ false → EpochRead time k k (places (range_at rc rv rb rp) k) e
-      → StatesRead present (cond present j 0) (cond present j 0) (places (state_at sc sv sb sf) (cond present j 0)) s
+  entry-added : (e : BaseEpoch) (s : Option States) → unreadable k rc rv rb rp (cond present j 0) sc sv sb sf ≡ false → EpochRead time k (places (range_at rc rv rb rp) k) e
+      → states_count s ≡ states_count (states_in present j sc sv sb sf) → states_of s ≡ states_of (states_in present j sc sv sb sf)
       → epoch_placed m n (block_capacity l) (directory_in m n l) e s base rover set ≡ entry_in m n (block_capacity l) (directory_in m n l) time k rc rv rb rp present j sc sv sb sf base rover set
   unfolding entry_in unreadable
-  entry-added e s h er sr =
+  entry-added e s h er a b =
       rw (or_no (ltb 64 k || ltb 64 (cond present j 0)) _ h).1
       (placed_same m n (block_capacity l) (directory_in m n l) base rover set e (base_epoch_of time k rc rv rb rp) s (states_in present j sc sv sb sf) er.count-is er.time-is
       (ap (λ (i : ℕ). take i e.ranges) er.count-is ∙ er.ranges ∙ sym (places-all (range_at rc rv rb rp) k))
-      count
-      (ap (λ (i : ℕ). take i s.states) count ∙ sr.states-are ∙ states present))
-    where
-      count : states_count s ≡ cond present j 0
-      count = rw (sr.mark, sr.count-is) (go present)
-        where
-          go : (p : Bool) → cond p (cond p j 0) 0 ≡ cond p j 0
-          go true = refl
-          go false = refl
+      a b)
 
-      states : (p : Bool) → places (state_at sc sv sb sf) (cond p j 0) ≡ take (cond p j 0) (places (state_at sc sv sb sf) j)
-      states true = sym (places-all (state_at sc sv sb sf) j)
-      states false = unfold places in refl
+-- ---- the outcome by the structs of columns
+module _ (m n : ℕ) (l : Blocks) (time : Float) (r : RangeColumns) (base rover : LentFloats) (gap max : Float) (on : LentBools) where
+  pub ranges-refused : (s : Option StateColumns) → ranges_lack r ≡ true → refused_in TooMany ≡ columns_entry m n l time r s base rover gap max on
+  ranges-refused None e = entry-unreadable m n l time r.count _ _ _ _ false 0 [] [] [] [] _ _ _ (by-ranges r.count _ _ _ _ 0 [] [] [] [] e)
+  ranges-refused (Some c) e = entry-unreadable m n l time r.count _ _ _ _ true c.count _ _ _ _ _ _ _ (by-ranges r.count _ _ _ _ c.count _ _ _ _ e)
 
-  -- the epoch e and the states s as they are given, w being how many states are read
-  module _ {w : ℕ} (ew : w ≡ cond present j 0) {e : BaseEpoch} {s : States}
-      (er : (ranges_short k rc rv rb rp ≡ true → 64 < e.count) × (ranges_short k rc rv rb rp ≡ false → EpochRead time k k (places (range_at rc rv rb rp) k) e))
-      (sr : (states_short w sc sv sb sf ≡ true → 64 < states_count s) × (states_short w sc sv sb sf ≡ false → StatesRead present w w (places (state_at sc sv sb sf) w) s)) where
-    entry-given : epoch_placed m n (block_capacity l) (directory_in m n l) e s base rover set
-        ≡ entry_in m n (block_capacity l) (directory_in m n l) time k rc rv rb rp present j sc sv sb sf base rover set
-    entry-given = go (ranges_short k rc rv rb rp) (states_short w sc sv sb sf) refl refl
-      where
-        left : (x y : Bool) → x ≡ true → (x || y) ≡ true
-        left x y h = rw h refl
+  pub states-refused : (c : StateColumns) → states_lack c ≡ true → refused_in TooMany ≡ columns_entry m n l time r (Some c) base rover gap max on
+  states-refused c e = entry-unreadable m n l time r.count _ _ _ _ true c.count _ _ _ _ _ _ _ (by-states r.count _ _ _ _ c.count _ _ _ _ e)
 
-        right : (x y : Bool) → y ≡ true → (x || y) ≡ true
-        right true y h = refl
-        right false y h = h
+  module _ {e : BaseEpoch} (given : (ranges_lack r ≡ false) × EpochRead time r.count (ranges_held r) e) where
+    pub read-none : epoch_placed m n (block_capacity l) (directory_in m n l) e None (vector_at (before base) 0) (vector_at (before rover) 0) (settings_of gap max (before on))
+        ≡ columns_entry m n l time r None base rover gap max on
+    unfolding states_short
+    read-none = entry-added m n l time r.count _ _ _ _ false 0 [] [] [] [] _ _ _ e None (by_both r.count _ _ _ _ 0 [] [] [] [] given.0 refl) given.1 refl refl
 
-        go : (x y : Bool) → ranges_short k rc rv rb rp ≡ x → states_short w sc sv sb sf ≡ y → epoch_placed m n (block_capacity l) (directory_in m n l) e s base rover set
-            ≡ entry_in m n (block_capacity l) (directory_in m n l) time k rc rv rb rp present j sc sv sb sf base rover set
-        go true y p q =
-            placed-many e s (left (ltb 64 e.count) (ltb 64 (states_count s)) (lt-ltb 64 e.count (er.0 p)))
-            ∙ entry-unreadable (wanted-is ew (by-ranges k rc rv rb rp w sc sv sb sf p))
-        go false true p q =
-            placed-many e s (right (ltb 64 e.count) (ltb 64 (states_count s)) (lt-ltb 64 (states_count s) (sr.0 q)))
-            ∙ entry-unreadable (wanted-is ew (by-states k rc rv rb rp w sc sv sb sf q))
-        go false false p q =
-            entry-added e s (wanted-is ew (by_both k rc rv rb rp w sc sv sb sf p q)) (er.1 p)
-            (subst (λ (x : ℕ). StatesRead present x x (places (state_at sc sv sb sf) x) s) ew (sr.1 q))
+    pub read-some : (c : StateColumns) {s : States} → (states_lack c ≡ false) × StatesRead c.count (places (state_held c) c.count) s
+        → epoch_placed m n (block_capacity l) (directory_in m n l) e (Some s) (vector_at (before base) 0) (vector_at (before rover) 0) (settings_of gap max (before on))
+        ≡ columns_entry m n l time r (Some c) base rover gap max on
+    read-some c {s} q =
+        entry-added m n l time r.count _ _ _ _ true c.count _ _ _ _ _ _ _ e (Some s) (by_both r.count _ _ _ _ c.count _ _ _ _ given.0 q.0) given.1 q.1.count-is
+        (ap (λ (i : ℕ). take i s.states) q.1.count-is ∙ q.1.states-are ∙ sym (places-all (state_held c) c.count))
 
-    pub adds-given : (ts' xs' : List ℕ) {from to : Vec3} {given : Settings} {x : Addition} {l' : Blocks} → from ≡ base → to ≡ rover → given ≡ set
-        → (let o = epoch_placed m n (block_capacity l) (directory_in m n l) e s from to given in (x ≡ addition_of o) × (Places o (addition_number x) m (entries_now x m) n (samples_now x n) l l' × PatternsAfter o ts xs ts' xs'))
-        → (let o = entry_in m n (block_capacity l) (directory_in m n l) time k rc rv rb rp present j sc sv sb sf base rover set in
-        (x ≡ addition_of o) × (Places o (addition_number x) m (entries_now x m) n (samples_now x n) l l' × PatternsAfter o ts xs ts' xs'))
-    adds-given ts' xs' f t g a = rw (← entry-given, ← f, ← t, ← g) a
+-- states are not read under the mark that there are none
+unread : (m n : ℕ) (l : Blocks) (time : Float) (k : ℕ) (rc rv rb : List ℕ) (rp : List Float) (j : ℕ) (sc sv sb : List ℕ) (sf : List Float) (base rover : Vec3) (set : Settings)
+    → entry_in m n (block_capacity l) (directory_in m n l) time k rc rv rb rp false 0 [] [] [] [] base rover set
+    ≡ entry_in m n (block_capacity l) (directory_in m n l) time k rc rv rb rp false j sc sv sb sf base rover set
+unfolding entry_in records_short
+unread m n l time k rc rv rb rp j sc sv sb sf base rover set = rw (none (length sc), none (length sv), none (length sb), none (length sf)) refl
+  where
+    none : (n : ℕ) → ltb n 0 ≡ false
+    none n = le-ltb n 0 (omega arith)
+
+-- the columns of a call that is lent the mark
+pub marked-columns : (m n : ℕ) (l : Blocks) (time : Float) (r : RangeColumns) (base rover : LentFloats) (gap max : Float) (on : LentBools) (present : Bool) (c : StateColumns)
+    → columns_entry m n l time r (then_some present c) base rover gap max on
+    ≡ entry_in m n (block_capacity l) (directory_in m n l) time r.count r.constellation.now r.svid.now r.band.now r.pseudorange.now
+    present c.count c.constellation.now c.svid.now c.band.now c.floats.now (vector_at (before base) 0) (vector_at (before rover) 0) (settings_of gap max (before on))
+marked-columns m n l time r base rover gap max on true c = refl
+marked-columns m n l time r base rover gap max on false c =
+    unread m n l time r.count r.constellation.now r.svid.now r.band.now r.pseudorange.now c.count c.constellation.now c.svid.now c.band.now c.floats.now (vector_at (before base) 0) (vector_at (before rover) 0) (settings_of gap max (before on))
 
 -- an answer by value, written out
-pub answer-written : {o : Placed} {x : Addition} {m m' n n' number : ℕ} {l l' : Blocks} (ts xs ts' xs' : List ℕ)
-    → (x ≡ addition_of o) × (Places o (addition_number x) m (entries_now x m) n (samples_now x n) l l' × PatternsAfter o ts xs ts' xs')
+pub answer-written : {o : Placed} {x : Result Counts Refusal} {m m' n n' number : ℕ} {l l' : Blocks} (ts xs ts' xs' : List ℕ)
+    → (x ≡ addition_of o) × (Places o (answer_number x) m (entries_now x m) n (samples_now x n) l l' × PatternsAfter o ts xs ts' xs')
     → CountsWritten x number m m' n n' → Places o number m m' n n' l l' × PatternsAfter o ts xs ts' xs'
 answer-written ts xs ts' xs' a (r, i, k) = rw (r, i, k) a.1

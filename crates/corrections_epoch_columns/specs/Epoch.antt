@@ -1,5 +1,5 @@
 -- A base epoch and the states beside it as lent columns hold them, and the outcome of adding them to a directory. Definitions only.
-use Rattle.std.specs.Prelude.{ℕ, ◌+◌, ◌*◌, Bool, cond, ◌||◌, List, ltb, length, get_or, Float}
+use Rattle.std.specs.Prelude.{Option, Some, None, ℕ, ◌+◌, ◌*◌, Bool, cond, ◌||◌, List, ltb, length, get_or, Float}
 use Rattle.std.specs.Float.{nan}
 use Rattle.lists.specs.Memory.{before, Memory, LentNumbers, LentFloats}
 use Rattle.lists.specs.Walk.{places}
@@ -41,8 +41,9 @@ state_at cs vs bs fs i =
       modelled = get_or fs (i * 8 + 7) nan;
     }
 
-abbrev pub states_in : Bool → ℕ → List ℕ → List ℕ → List ℕ → List Float → States
-states_in present m cs vs bs fs = record { present = present; count = m; states = places (state_at cs vs bs fs) m }
+-- the first m states that the columns hold; none under the mark that there are none
+abbrev pub states_in : Bool → ℕ → List ℕ → List ℕ → List ℕ → List Float → Option States
+states_in present m cs vs bs fs = cond present (Some record { count = m; states = places (state_at cs vs bs fs) m }) None
 
 -- the greatest gap and correction, and for each constellation whether it is in use
 abbrev pub settings_of : Float → Float → List Bool → Settings

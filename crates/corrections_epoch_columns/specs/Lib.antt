@@ -1,2 +1,4 @@
 pub mod Epoch
+pub mod Short
+pub mod Columns
 pub mod Steps

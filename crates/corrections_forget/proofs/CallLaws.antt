@@ -1,4 +1,6 @@
 -- The call: its refusals, what it leaves, and the queries afterwards. Assumes nothing.
+use Rattle.numeric.specs.Refusal.{answer_number}
+use Rattle.std.specs.Prelude.{Result, Ok, Err, ⊤}
 use mathlib.Core.Path.{◌≡◌, refl, sym, ap, ◌∙◌}
 use mathlib.Core.Bool.{Bool, true, false, not, ◌&&◌, ◌||◌}
 use Prim.Native.Nat.{ℕ, ◌^◌, ◌≤◌, ◌<◌}
@@ -21,13 +23,11 @@ use Rattle.corrections_table.specs.Table.{ranged, sound_table}
 use Rattle.corrections_table.specs.declared.sample.Sample.{Sample}
 use Rattle.corrections_table.proofs.TableLaws.{and_left, and_right}
 use Rattle.corrections_table.proofs.UnitLaws.{never}
-use Rattle.corrections_table.specs.declared.add.Test.{Test}
 use Rattle.corrections_directory.specs.Directory.{Directory, Blocks, Reading, block_capacity, blocks_with, directory_in, directory_of, entries_in, flat, floats, in_reach, reading_of, readings_in, sound_directory}
 use Rattle.corrections_directory.proofs.DirectoryLaws.{sound-flat}
 use Rattle.corrections_query.proofs.PlaceLaws.{held-flat}
-use Rattle.corrections_forget.specs.Forget.{Forgets, ForgetOutcome, PatternsAfter, count_after, forget, forget_in, forgetting_number, forgetting_of, leaves, test_in, retained, trimmed}
+use Rattle.corrections_forget.specs.Forget.{Forgets, ForgetOutcome, PatternsAfter, count_after, forget, forget_in, forgetting_of, leaves, test_in, retained, trimmed}
 use Rattle.corrections_forget.specs.Steps.{Fit}
-use Rattle.corrections_forget.specs.declared.forget.Forgetting.{Forgetting}
 use Rattle.corrections_forget.proofs.LayoutLaws.{forget-trimmed}
 use Rattle.corrections_forget.proofs.ForgetLaws.{forget-sound}
 use Rattle.corrections_forget.proofs.PatternLaws.{floats-held, patterns-of}
@@ -35,39 +35,39 @@ use Rattle.corrections_forget.proofs.TrimLaws.{laid-length}
 
 -- ---- the tests one after the other
 module _ (m n room : ℕ) (d : Directory) (time : Float) {r : ℕ} (is : r ≡ room) where
-  pub test-count : (ltb r m || ltb r n) ≡ true → Test.Refused TooMany ≡ test_in m n room d time
+  pub test-count : (ltb r m || ltb r n) ≡ true → Err TooMany ≡ test_in m n room d time
   unfolding test_in ruled
   test-count h = rw (← is, h)
 
   module _ (h : (ltb r m || ltb r n) ≡ false) {y : Bool} (ey : y ≡ sound_directory d) where
-    pub test-sound : not y ≡ true → Test.Refused RecordOutOfRange ≡ test_in m n room d time
+    pub test-sound : not y ≡ true → Err RecordOutOfRange ≡ test_in m n room d time
     unfolding test_in ruled
     test-sound u = rw (← is, h, ← ey, not-true y u)
 
     module _ (u : not y ≡ false) {f : Bool} (ef : f ≡ finite time) where
-      pub test-finite : not f ≡ true → Test.Refused BadDropTime ≡ test_in m n room d time
+      pub test-finite : not f ≡ true → Err BadDropTime ≡ test_in m n room d time
       unfolding test_in ruled
       test-finite w = rw (← is, h, ← ey, not-false y u, ← ef, not-true f w)
 
-      pub test-passed : not f ≡ false → Test.Passed ≡ test_in m n room d time
+      pub test-passed : not f ≡ false → (Ok tt) ≡ test_in m n room d time
       unfolding test_in ruled
       test-passed w = rw (← is, h, ← ey, not-false y u, ← ef, not-false f w)
 
 -- ---- what a passed test says
-refused_not : {A : Type 0} (r : Refusal) → Test.Refused r ≡ Test.Passed → A
+refused_not : {A : Type 0} (r : Refusal) → ◌≡◌ {A = Result ⊤ Refusal} (Err r) (Ok tt) → A
 refused_not r e = never (ap is_passed e)
   where
-    is_passed : Test → Bool
-    is_passed (Test.Refused r) = false
-    is_passed Test.Passed = true
+    is_passed : Result ⊤ Refusal → Bool
+    is_passed (Err r) = false
+    is_passed (Ok tt) = true
 
-pub fit_of_lem : (m n : ℕ) (l : Blocks) (time : Float) → test_in m n (block_capacity l) (directory_in m n l) time ≡ Test.Passed → Fit m n l
+pub fit_of_lem : (m n : ℕ) (l : Blocks) (time : Float) → test_in m n (block_capacity l) (directory_in m n l) time ≡ (Ok tt) → Fit m n l
 fit_of_lem m n l time e = go (ltb (block_capacity l) m || ltb (block_capacity l) n) (sound_directory (directory_in m n l)) refl refl
   where
-    many : (ltb (block_capacity l) m || ltb (block_capacity l) n) ≡ true → test_in m n (block_capacity l) (directory_in m n l) time ≡ Test.Refused TooMany
+    many : (ltb (block_capacity l) m || ltb (block_capacity l) n) ≡ true → test_in m n (block_capacity l) (directory_in m n l) time ≡ Err TooMany
     many p = unfold test_in ruled in rw p
 
-    unsound : (ltb (block_capacity l) m || ltb (block_capacity l) n) ≡ false → sound_directory (directory_in m n l) ≡ false → test_in m n (block_capacity l) (directory_in m n l) time ≡ Test.Refused RecordOutOfRange
+    unsound : (ltb (block_capacity l) m || ltb (block_capacity l) n) ≡ false → sound_directory (directory_in m n l) ≡ false → test_in m n (block_capacity l) (directory_in m n l) time ≡ Err RecordOutOfRange
     unsound p q = unfold test_in ruled in rw (p, q)
 
     go : (x y : Bool) → (ltb (block_capacity l) m || ltb (block_capacity l) n) ≡ x → sound_directory (directory_in m n l) ≡ y → Fit m n l
@@ -103,15 +103,15 @@ fields-range (r ∷ rs) e =
     (rw (and_left (in_range r.time) _ a) k.0, rw (and_right (in_range r.time) _ a) k.1)
 
 module _ (m n : ℕ) (l : Blocks) (time : Float) (ts xs : List ℕ) where
-  pub forget-refused : (r : Refusal) → test_in m n (block_capacity l) (directory_in m n l) time ≡ Test.Refused r
-      → (let o = forget_in m n (block_capacity l) (directory_in m n l) time in (Forgetting.Refused r ≡ forgetting_of o) × (Forgets o (number_of r) m n n l l × PatternsAfter o ts xs ts xs))
+  pub forget-refused : (r : Refusal) → test_in m n (block_capacity l) (directory_in m n l) time ≡ Err r
+      → (let o = forget_in m n (block_capacity l) (directory_in m n l) time in (Err r ≡ forgetting_of o) × (Forgets o (number_of r) m n n l l × PatternsAfter o ts xs ts xs))
   unfolding forget_in
   forget-refused r e = rw e (refl, (record { number_is = refl; entries-stay = refl; count = refl; columns = refl }, (refl, refl)))
 
-  pub forget-passed : test_in m n (block_capacity l) (directory_in m n l) time ≡ Test.Passed → l.times ≡ floats ts → l.corrections ≡ floats xs → T (fits binary64 time)
+  pub forget-passed : test_in m n (block_capacity l) (directory_in m n l) time ≡ (Ok tt) → l.times ≡ floats ts → l.corrections ≡ floats xs → T (fits binary64 time)
       → {k : ℕ} {l' : Blocks} → k ≡ length (trimmed time (directory_in m n l)).readings → l' ≡ blocks_with (trimmed time (directory_in m n l)) l
       → (ts' xs' : List ℕ) → l'.times ≡ floats ts' → l'.corrections ≡ floats xs' → drop k ts' ≡ drop k ts → drop k xs' ≡ drop k xs → ((x : ℕ) → get_or ts' x 0 < 2 ^ 64) → ((x : ℕ) → get_or xs' x 0 < 2 ^ 64)
-      → (let o = forget_in m n (block_capacity l) (directory_in m n l) time in (Forgetting.Count k ≡ forgetting_of o) × (Forgets o 0 m n k l l' × PatternsAfter o ts xs ts' xs'))
+      → (let o = forget_in m n (block_capacity l) (directory_in m n l) time in (Ok k ≡ forgetting_of o) × (Forgets o 0 m n k l l' × PatternsAfter o ts xs ts' xs'))
   forget-passed e lt lx ft {k} {l'} ek el ts' xs' lt' lx' dt dx bt bx =
       let f = fit_of_lem m n l time e in
       let d = directory_in m n l in
@@ -119,7 +119,7 @@ module _ (m n : ℕ) (l : Blocks) (time : Float) (ts xs : List ℕ) where
       let o : forget_in m n (block_capacity l) d time ≡ leaves (trimmed time d) = outcome q in
       let r = fields-range (trimmed time d).readings (reach f.sound q) in
       rw o (
-        ap Forgetting.Count ek,
+        ap Ok ek,
         (
           record { number_is = refl; entries-stay = entries f.few-entries; count = ek; columns = el },
           record {
@@ -144,9 +144,9 @@ module _ (m n : ℕ) (l : Blocks) (time : Float) (ts xs : List ℕ) where
           ap (λ (d : Directory). every in_reach d.readings) (sym q) ∙ w
 
 -- ---- the number and the count, by the answer
-module _ {o : ForgetOutcome} {m n : ℕ} {l l' : Blocks} {a : Forgetting} (f : Forgets o (forgetting_number a) m n (count_after a n) l l') where
-  pub call-refused : {r : Refusal} → a ≡ Forgetting.Refused r → {k : ℕ} → k ≡ number_of r → Forgets o k m n n l l'
+module _ {o : ForgetOutcome} {m n : ℕ} {l l' : Blocks} {a : Result ℕ Refusal} (f : Forgets o (answer_number a) m n (count_after a n) l l') where
+  pub call-refused : {r : Refusal} → a ≡ Err r → {k : ℕ} → k ≡ number_of r → Forgets o k m n n l l'
   call-refused e q = rw q (rw e at f)
 
-  pub call-count : {k : ℕ} → a ≡ Forgetting.Count k → Forgets o 0 m n k l l'
+  pub call-count : {k : ℕ} → a ≡ Ok k → Forgets o 0 m n k l l'
   call-count e = rw e at f

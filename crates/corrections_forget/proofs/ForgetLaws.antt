@@ -1,4 +1,5 @@
 -- Forgetting leaves a sound table sound, keeps the answers at and after its time, and commutes with additions not earlier than it. Assumes nothing.
+use Rattle.std.specs.Prelude.{Err}
 use mathlib.Core.Path.{◌≡◌, refl, sym, ap, ◌∙◌}
 use mathlib.Core.List.{List, [], ◌∷◌, ◌++◌}
 use mathlib.Core.Bool.{Bool, true, false, cond, ◌&&◌, ◌||◌}
@@ -21,7 +22,6 @@ use Rattle.corrections_table.proofs.SeriesLaws.{mine, other, insert-rises}
 use Rattle.corrections_table.proofs.UnitLaws.{never}
 use Rattle.corrections_directory.proofs.DirectoryLaws.{rises-weak}
 use Rattle.corrections_query.specs.Query.{Found, missing, the, near, first_of, last_of, sample_before, since, near_or, spanned, correction_rule, answer_in, answer_at}
-use Rattle.corrections_query.specs.declared.query.Correction.TheVariants.{Refused}
 use Rattle.corrections_query.proofs.FoundLaws.{later, earlier_series, later_series}
 use Rattle.corrections_forget.specs.Forget.{earlier, some, forget}
 use Rattle.corrections_forget.proofs.TimeLaws.{lt-through, not_before-nan}
@@ -176,10 +176,10 @@ answer-found : (l : List Sample) (gap : Float) (c v b : ℕ) (q : Float) → ans
 unfolding answer_at answer_in
 answer-found l gap c v b q = rw (earlier_series (signal c v b) q l, later_series (signal c v b) q l)
 
-at-nan : (l : List Sample) (gap : Float) (c v b : ℕ) (q : Float) → is_nan q ≡ true → answer_at l gap c v b q ≡ Refused NoCorrection
+at-nan : (l : List Sample) (gap : Float) (c v b : ℕ) (q : Float) → is_nan q ≡ true → answer_at l gap c v b q ≡ Err NoCorrection
 at-nan l gap c v b q n = rw (answer-found l gap c v b q, none_before (signal c v b) q missing l n) (go (first_of (later (signal c v b) q) l))
   where
-    go : (h : Found) → correction_rule gap q missing h ≡ Refused NoCorrection
+    go : (h : Found) → correction_rule gap q missing h ≡ Err NoCorrection
     go missing = unfold correction_rule near_or spanned in refl
     go (the s) = unfold correction_rule near_or spanned in rw (near-nan s.time q n)
 

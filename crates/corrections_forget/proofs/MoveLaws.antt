@@ -9,52 +9,8 @@ use lib.Dec.{ltb}
 use borrow.Author.Tests.{ltb-true, ltb-false}
 use lib.Ieee.{Float, nan, lt}
 use lib.ListN.{length, get_or, take, drop, set, length-drop, length-set, take-append-drop}
-use lib.Seq.{drop-drop, drop-paste, drop-set-lt, get_or-append-add, get_or-drop, length-paste, length_paste_head, length-take-le, paste-suc, paste-zero, take-paste, take-suc-set}
-use Rattle.corrections_forget.specs.Steps.{Outdated, moved_down}
-
--- ---- values moved down, one after the other
-module _ {A : Type 0} (to from : ℕ) (l : List A) where
-  moved_none : l ≡ moved_down to from 0 l
-  moved_none = paste-zero l to (drop from l)
-
-  module _ (h : to ≤ from) (i : ℕ) where
-    -- what is still to be moved is as it was
-    moved-read : (z : A) → from + i < length l → get_or (moved_down to from i l) (from + i) z ≡ get_or (drop from l) i z
-    moved-read z k =
-        let p : length (take to l ++ take i (drop from l)) ≡ to + i = length_paste_head l to (drop from l) i (omega arith) (omega (arith, length-drop from l)) in
-        let e : from + i ≡ length (take to l ++ take i (drop from l)) + (from - to) = omega (arith, p) in
-        let f : to + i + (from - to) ≡ from + i = omega arith in
-        ap (λ (j : ℕ). get_or (moved_down to from i l) j z) e
-        ∙ get_or-append-add (take to l ++ take i (drop from l)) (drop (to + i) l) (from - to) z
-        ∙ get_or-drop (to + i) l (from - to) z
-        ∙ ap (λ (j : ℕ). get_or l j z) f
-        ∙ sym (get_or-drop from l i z)
-
-    moved-turn : (z v : A) → from + i < length l → v ≡ get_or (moved_down to from i l) (from + i) z → set (moved_down to from i l) (to + i) v ≡ moved_down to from (i + 1) l
-    moved-turn z v k e =
-        ap (λ (x : A). set (moved_down to from i l) (to + i) x) (e ∙ moved-read z k)
-        ∙ paste-suc l to (drop from l) i z (omega arith) (omega (arith, length-drop from l))
-        ∙ ap (λ (j : ℕ). moved_down to from j l) (sym (add-one i))
-
--- l₀ is the column before, l the column now, where i values are moved
-pub record Moving {A : Type 0} (to from : ℕ) (l₀ l : List A) (i : ℕ) : Type 0 where
-  pub is : l ≡ moved_down to from i l₀
-  pub long : length l ≡ length l₀
-
-module _ {A : Type 0} {to from : ℕ} {l₀ : List A} where
-  pub moving_start : Moving to from l₀ l₀ 0
-  moving_start = record { is = moved_none to from l₀; long = refl }
-
-  module _ {l : List A} {i : ℕ} (inv : Moving to from l₀ l i) where
-    pub moving_turn : (z : A) → to ≤ from → from + i < length l₀ → Moving to from l₀ (set l (to + i) (get_or l (from + i) z)) (i + 1)
-    moving_turn z h k =
-        record {
-          is = ap (λ (m : List A). set m (to + i) (get_or l (from + i) z)) inv.is ∙ moved-turn to from l₀ h i z (get_or l (from + i) z) k (ap (λ (m : List A). get_or m (from + i) z) inv.is);
-          long = length-set l (to + i) (get_or l (from + i) z) ∙ inv.long;
-        }
-
-    pub moving_end : (n : ℕ) → i ≡ n → l ≡ moved_down to from n l₀
-    moving_end n e = inv.is ∙ ap (λ (j : ℕ). moved_down to from j l₀) e
+use lib.Seq.{drop-drop, drop-paste, drop-set-lt, get_or-drop, length-paste, length-take-le, take-paste, take-suc-set}
+use Rattle.corrections_forget.specs.Steps.{moved_down}
 
 -- ---- a column written from the front on: c₀ is the column before, c the column now; its first k values with `rest` are `whole`, and from k on it is as it was
 pub record Going {A : Type 0} (c₀ c rest whole : List A) (k : ℕ) : Type 0 where
@@ -125,9 +81,6 @@ pub record PassedFront (ts : List Float) (first count : ℕ) (time : Float) (k :
   pub earlier : (j : ℕ) → j < k → lt (get_or ts (first + j) nan) time ≡ true
 
 module _ {ts : List Float} {first count : ℕ} {time : Float} where
-  pub passed_none : PassedFront ts first count time 0
-  passed_none = record { within = omega arith; earlier = λ j h. absurd (omega arith) }
-
   module _ {k : ℕ} (inv : PassedFront ts first count time k) where
     pub passed-more : k < count → lt (get_or ts (first + k) nan) time ≡ true → PassedFront ts first count time (k + 1)
     passed-more h e = record { within = omega arith; earlier = λ j l. go j l (ltb j k) refl }
@@ -135,9 +88,3 @@ module _ {ts : List Float} {first count : ℕ} {time : Float} where
         go : (j : ℕ) → j < k + 1 → (x : Bool) → ltb j k ≡ x → lt (get_or ts (first + j) nan) time ≡ true
         go j l true q = inv.earlier j (ltb-true j k q)
         go j l false q = let z : j ≡ k = omega (arith, ltb-false j k q) in rw z e
-
-    pub passed-stop : lt (get_or ts (first + k) nan) time ≡ false → Outdated ts first count time k
-    passed-stop e = record { within = inv.within; earlier = inv.earlier; next = λ h. e }
-
-    pub passed-all : count ≤ k → Outdated ts first count time k
-    passed-all h = record { within = inv.within; earlier = inv.earlier; next = λ l. absurd (omega arith) }

@@ -1,17 +1,16 @@
 -- Forgetting the samples before a time (request (x)). Definitions only.
+use Rattle.numeric.specs.Refusal.{answer_number}
+use Rattle.std.specs.Prelude.{Result, Ok, Err, ⊤}
 use Rattle.std.specs.Prelude.{ℕ, ◌+◌, ◌-◌, ◌≡◌, Bool, false, cond, not, ◌&&◌, ◌||◌, List, [], ◌∷◌, eqb, ltb, length, take, drop, Float}
 use Rattle.std.specs.Float.Ieee.Scale.{finite}
-use Rattle.numeric.specs.Refusal.{number_of}
 use Rattle.numeric.specs.Rules.{rule, ruled}
 use Rattle.numeric.specs.declared.refusal.Refusal.{Refusal}
 use Rattle.numeric.specs.declared.refusal.Refusal.TheVariants.{TooMany, RecordOutOfRange, BadDropTime}
 use Rattle.corrections_table.specs.Table.{signal_of}
 use Rattle.corrections_table.specs.declared.sample.Sample.{Sample}
-use Rattle.corrections_table.specs.declared.add.Test.{Test}
 use Rattle.corrections_directory.specs.Directory.{Directory, Blocks, PatternsWith, block_capacity, blocks_with, directory_in, directory_of, flat, sound_directory, Entry, Reading, block}
 use Rattle.corrections_directory.specs.Lent.{LentTable}
 use Rattle.corrections_query.specs.Query.{sample_before}
-use Rattle.corrections_forget.specs.declared.forget.Forgetting.{Forgetting}
 use Rattle.lists.specs.Walk.{collect}
 use Rattle.corrections_directory.specs.Series.{front}
 
@@ -34,14 +33,14 @@ forget time (s ∷ ss) = cond (sample_before time s && some (earlier (signal_of 
 -- ---- the call
 
 -- what is tested before a drop from m entries and n samples in columns with that capacity: number 2, number 4, which does not depend on the time, and number 18
-unfoldable pub test_in : ℕ → ℕ → ℕ → Directory → Float → Test
+unfoldable pub test_in : ℕ → ℕ → ℕ → Directory → Float → Result ⊤ Refusal
 test_in m n room d time =
-    ruled Test.Refused
+    ruled Err
     (rule TooMany (ltb room m || ltb room n)
     ∷ rule RecordOutOfRange (not (sound_directory d))
     ∷ rule BadDropTime (not (finite time))
     ∷ [])
-    Test.Passed
+    (Ok tt)
 
 -- a refusal, or the directory afterwards
 pub data ForgetOutcome : Type 0 where
@@ -49,28 +48,23 @@ pub data ForgetOutcome : Type 0 where
   leaves : Directory → ForgetOutcome
 
 -- what comes of a test, where the directory d is left if it is passed
-abbrev pub outcome_of : Test → Directory → ForgetOutcome
-outcome_of (Test.Refused r) d = refused r
-outcome_of Test.Passed d = leaves d
+abbrev pub outcome_of : Result ⊤ Refusal → Directory → ForgetOutcome
+outcome_of (Err r) d = refused r
+outcome_of (Ok tt) d = leaves d
 
 -- a drop: the refusal, or the directory of what is retained of the samples that d stands for
 unfoldable pub forget_in : ℕ → ℕ → ℕ → Directory → Float → ForgetOutcome
 forget_in m n room d time = outcome_of (test_in m n room d time) (directory_of (forget time (flat d)))
 
 -- the answer: the refusal, or how many samples there are now
-abbrev pub forgetting_of : ForgetOutcome → Forgetting
-forgetting_of (refused r) = Forgetting.Refused r
-forgetting_of (leaves d) = Forgetting.Count (length d.readings)
-
--- 0, or the number of the refusal
-abbrev pub forgetting_number : Forgetting → ℕ
-forgetting_number (Forgetting.Refused r) = number_of r
-forgetting_number (Forgetting.Count k) = 0
+abbrev pub forgetting_of : ForgetOutcome → Result ℕ Refusal
+forgetting_of (refused r) = Err r
+forgetting_of (leaves d) = Ok (length d.readings)
 
 -- how many samples there are after an answer, n before it
-abbrev pub count_after : Forgetting → ℕ → ℕ
-count_after (Forgetting.Refused r) n = n
-count_after (Forgetting.Count k) n = k
+abbrev pub count_after : Result ℕ Refusal → ℕ → ℕ
+count_after (Err r) n = n
+count_after (Ok k) n = k
 
 -- how many entries there are afterwards, m before
 abbrev pub entries_after : ForgetOutcome → ℕ → ℕ
@@ -89,7 +83,7 @@ PatternsAfter (leaves d) ts xs ts' xs' = PatternsWith d ts xs ts' xs'
 
 -- the number, the count and the columns afterwards are those of the outcome, and the directory keeps its m entries
 pub record Forgets (o : ForgetOutcome) (number m n n' : ℕ) (l l' : Blocks) : Type 0 where
-  pub number_is : number ≡ forgetting_number (forgetting_of o)
+  pub number_is : number ≡ answer_number (forgetting_of o)
   pub entries-stay : m ≡ entries_after o m
   pub count : n' ≡ count_after (forgetting_of o) n
   pub columns : l' ≡ blocks_after o l
@@ -107,8 +101,8 @@ ForgetsIn m n t time number n' =
     × PatternsAfter (lent_forget m n t time) t.times t.corrections t.times_after t.corrections_after
 
 -- the answer is that of the outcome, and so are the columns
-abbrev pub Forgot : ℕ → ℕ → LentTable → Float → Forgetting → Type 0
-Forgot m n t time a = (a ≡ forgetting_of (lent_forget m n t time)) × ForgetsIn m n t time (forgetting_number a) (count_after a n)
+abbrev pub Forgot : ℕ → ℕ → LentTable → Float → Result ℕ Refusal → Type 0
+Forgot m n t time a = (a ≡ forgetting_of (lent_forget m n t time)) × ForgetsIn m n t time (answer_number a) (count_after a n)
 
 -- what a drop leaves of an entry's block: of the samples at its front that are before the time all but the last go
 abbrev pub retained : Float → List Reading → Entry → List Reading

@@ -1,4 +1,6 @@
 -- Forgetting in a directory, block by block: what the contracts of the steps say. Definitions only.
+use Rattle.std.specs.Prelude.{Result, ⊤}
+use Rattle.numeric.specs.declared.refusal.Refusal.{Refusal}
 use Rattle.std.specs.Prelude.{ℕ, ◌+◌, ◌≤◌, ◌<◌, ◌≡◌, true, false, List, length, get_or, drop, Float}
 use Rattle.std.proofs.Math.Seq.{paste}
 use Rattle.std.specs.Float.{nan}
@@ -6,13 +8,12 @@ use Rattle.std.specs.Float.Ieee.{lt}
 use Rattle.std.specs.Borrow.{Bor}
 use Rattle.lists.specs.Memory.{before, after, LentNumbers}
 use Rattle.corrections_directory.specs.Directory.{Blocks, block_capacity, blocks_with, directory_in, entries_in, floats, lent_blocks, readings_in, sound_directory}
-use Rattle.corrections_table.specs.declared.add.Test.{Test}
-use Rattle.corrections_directory.specs.Lent.{LentTable}
+use Rattle.corrections_directory.specs.Read.{ReadTable}
 use Rattle.corrections_forget.specs.Forget.{test_in, trimmed}
 
--- the test of a drop from m entries and n samples in lent columns
-abbrev pub forget_test : ℕ → ℕ → LentTable → Float → Test
-forget_test m n t time = test_in m n (block_capacity t.before) (directory_in m n t.before) time
+-- the test of a drop from a table in lent columns
+abbrev pub forget_test : ReadTable → Float → Result ⊤ Refusal
+forget_test t time = test_in t.entries t.samples (block_capacity t.columns) (directory_in t.entries t.samples t.columns) time
 
 -- the first r of the count times from the place first on are before the time, and the next one is not
 pub record Outdated (ts : List Float) (first count : ℕ) (time : Float) (r : ℕ) : Type 0 where
@@ -48,7 +49,3 @@ Trims m f k t x time r =
     let d = trimmed time (directory_in m n l) in
     Fit m n l → (r ≡ length d.readings) × (lent_blocks constellations svids bands (after f) (after k) (floats (after t)) (floats (after x)) ≡ blocks_with d l)))
     × ((drop r (after t) ≡ drop r (before t)) × (drop r (after x) ≡ drop r (before x)))
-
--- a column with k of its values moved down
-abbrev pub MovesDown : ℕ → ℕ → ℕ → LentNumbers → Type 0
-MovesDown to from k c = after c ≡ moved_down to from k (before c)

@@ -1,4 +1,6 @@
 -- Request (ii): `zaqnuti_widen_bands` and `zaqnuti_directory_of` accept an old table within its capacity, and what they leave answers as it did. Assumes nothing.
+use Rattle.numeric.specs.Refusal.{answer_number}
+use Rattle.std.specs.Prelude.{Ok}
 use mathlib.Core.Path.{◌≡◌, refl, sym, ap, subst, ◌∙◌}
 use mathlib.Core.List.{List, ◌++◌}
 use mathlib.Core.Bool.{true, false}
@@ -8,9 +10,8 @@ use borrow.Author.Tests.{le-ltb, ltb-false}
 use lib.ListN.{length, take, drop}
 use native.Mathlib.Omega.{arith}
 use Rattle.corrections_table.specs.Table.{rows, sound_table}
-use Rattle.corrections_table.specs.Widen.{bands_short, widen_of, widening_number}
+use Rattle.corrections_table.specs.Widen.{bands_short, widen_of}
 use Rattle.corrections_table.specs.declared.sample.Sample.{Sample}
-use Rattle.corrections_table.specs.declared.widen.Widening.TheVariants.{Widened}
 use Rattle.corrections_table.proofs.Places.{sorted_rises}
 use Rattle.corrections_table.proofs.WidenLaws.{Roomy, fits-widened, table-widened}
 use Rattle.corrections_directory.specs.Directory.{directory_of, entries_from, entries_in, floats}
@@ -39,13 +40,13 @@ module _ (o : Table) (wide wide' : List ℕ) (number : ℕ) (widens : WidensBand
   roomy : Roomy o.samples o.bands wide
   roomy = record { few = omega arith; in-narrow = omega arith; in-wide = long }
 
-  accepted : widen_of o.samples o.bands wide ≡ Widened
+  accepted : widen_of o.samples o.bands wide ≡ (Ok tt)
   unfolding widen_of bands_short
   accepted =
       rw (le-ltb 2048 o.samples roomy.few, le-ltb (length o.bands) o.samples roomy.in-narrow, le-ltb (length wide) o.samples long)
 
   widening_accepted : number ≡ 0
-  widening_accepted = widens.number_is ∙ ap widening_number accepted
+  widening_accepted = widens.number_is ∙ ap answer_number accepted
 
   -- and leaves the old bands; later places stay
   pub widened-bands : wide' ≡ take o.samples o.bands ++ drop o.samples wide

@@ -1,4 +1,5 @@
 -- The conditions of specs/Numbers.antt cover every input: two numbers that both meet them are equal. Assumes nothing.
+use Rattle.std.specs.Prelude.{Result, Ok, Err}
 use mathlib.Core.Path.{◌≡◌, refl, sym, ◌∙◌}
 use mathlib.Core.List.{List}
 use mathlib.Core.Bool.{Bool, true, false}
@@ -14,8 +15,6 @@ use Rattle.numeric.specs.declared.refusal.Refusal.{Refusal}
 use Rattle.corrections_table.specs.Table.{Columns, sound_table, table_of}
 use Rattle.corrections_directory.specs.Directory.{Blocks, Directory, directory_in, flat, sound_directory}
 use Rattle.corrections_query.specs.Query.{answer_at}
-use Rattle.corrections_query.specs.declared.query.Correction.{Correction}
-use Rattle.corrections_query.specs.declared.query.Correction.TheVariants.{Metres, Refused}
 use Rattle.corrections_queries.specs.Queries.{Asked}
 use Rattle.corrections_epoch.specs.AddEpoch.{records_in_range}
 use Rattle.corrections_laws.specs.Calls.{Caller, Epoch, as_blocks, base_epoch, directory, new_samples, states_beside}
@@ -29,9 +28,9 @@ test false f g = g refl
 below : (a b : ℕ) {A : Type 0} → (a < b → A) → (b ≤ a → A) → A
 below a b f g = test (ltb a b) (λ e. f (ltb-true a b e)) (λ e. g (ltb-false a b e))
 
-answer : (q : Correction) {A : Type 0} → ((r : Refusal) → q ≡ Refused r → A) → ((x : Float) → q ≡ Metres x → A) → A
-answer (Refused r) f g = f r refl
-answer (Metres x) f g = g x refl
+answer : (q : Result Float Refusal) {A : Type 0} → ((r : Refusal) → q ≡ Err r → A) → ((x : Float) → q ≡ Ok x → A) → A
+answer (Err r) f g = f r refl
+answer (Ok x) f g = g x refl
 
 same : {A : Type 0} {x y z : A} → x ≡ z → y ≡ z → x ≡ y
 same p q = p ∙ sym q

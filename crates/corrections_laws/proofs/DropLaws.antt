@@ -1,4 +1,7 @@
 -- Request (x): the same calls without the drops, where the capacity holds all that was added. Assumes nothing.
+use Rattle.numeric.specs.Refusal.{answer_number}
+use Rattle.std.specs.Prelude.{Result}
+use Rattle.numeric.specs.declared.refusal.Refusal.{Refusal}
 use mathlib.Core.Path.{◌≡◌, refl, sym, ap, subst, ◌∙◌}
 use mathlib.Core.List.{List, [], ◌∷◌}
 use mathlib.Core.Bool.{Bool, true, false, cond, ◌||◌}
@@ -20,8 +23,7 @@ use Rattle.corrections_directory.specs.Directory.{directory_of, readings_in, sou
 use Rattle.corrections_directory.proofs.DirectoryLaws.{sound-flat}
 use Rattle.corrections_directory.proofs.NarrowLaws.{narrow, sound-directory}
 use Rattle.corrections_directory.proofs.ColumnLaws.{flat-length}
-use Rattle.corrections_query.specs.Query.{guarded, pattern_after, query_in, query_number}
-use Rattle.corrections_query.specs.declared.query.Correction.{Correction}
+use Rattle.corrections_query.specs.Query.{guarded, pattern_after, query_in}
 use Rattle.corrections_forget.specs.History.{Event, add, allowed, drop, happen, history, undropped}
 use Rattle.corrections_forget.proofs.HistoryLaws.{history-law, sorted_of}
 use Rattle.corrections_forget.proofs.ForgetLaws.{forget-every}
@@ -252,4 +254,4 @@ module _ (h h' g' : Caller) (cs : List Call) (ks js : List ℕ) (run : CallRun h
         → (number ≡ other) × (metres' ≡ metres'')
     same_answer q al number other metres metres' metres'' a b =
         let e = same_query q al in
-        (a.number_is ∙ ap query_number e ∙ sym b.number_is, a.metres_are ∙ ap (λ (c : Correction). pattern_after c metres) e ∙ sym b.metres_are)
+        (a.number_is ∙ ap answer_number e ∙ sym b.number_is, a.metres_are ∙ ap (λ (c : Result Float Refusal). pattern_after c metres) e ∙ sym b.metres_are)

@@ -1,4 +1,7 @@
 -- The number of an added epoch, of forgetting, of both rearrangements and of widening, by the calls' contracts, and what a refusal leaves. Assumes nothing.
+use Rattle.numeric.specs.Refusal.{answer_number}
+use Rattle.std.specs.Prelude.{Result, Ok, Err, ⊤}
+use Rattle.numeric.specs.declared.refusal.Refusal.{Refusal}
 use mathlib.Core.Path.{◌≡◌, refl, sym, ap, ◌∙◌}
 use mathlib.Core.List.{List, [], ◌∷◌, ◌++◌}
 use mathlib.Core.Bool.{Bool, true, false, cond, not, ◌&&◌, ◌||◌}
@@ -12,16 +15,14 @@ use lib.Ieee.Scale.{finite}
 use Rattle.numeric.specs.Rules.{ruled}
 use Rattle.numeric.specs.declared.refusal.Refusal.TheVariants.{TooMany, RecordOutOfRange, BadDropTime}
 use Rattle.corrections_table.specs.Table.{Columns, capacity, sound_table, table_of}
-use Rattle.corrections_table.specs.Widen.{bands_after, bands_short, widen_of, widening_number}
-use Rattle.corrections_table.specs.declared.add.Test.TheVariants as Test
-use Rattle.corrections_table.specs.declared.widen.Widening.{Widening}
+use Rattle.corrections_table.specs.Widen.{bands_after, bands_short, widen_of}
 use Rattle.corrections_table.proofs.WidenLaws.{not_short}
 use Rattle.numeric.proofs.RefusalLaws.{not-zero}
 use Rattle.corrections_table.proofs.ColumnLaws.{rows-length}
 use Rattle.corrections_directory.specs.Directory.{Blocks, block_capacity, directory_in, directory_of, entries_in, flat, sound_directory}
 use Rattle.corrections_directory.specs.Rearrange.{Filed, Listed, entries_are, filed_number, filed_of, listed_number, listed_of, samples_are, unfiled, unlisted}
 use Rattle.corrections_directory.proofs.ColumnLaws.{entries-length, readings-length}
-use Rattle.corrections_forget.specs.Forget.{forget, forget_in, forgetting_number, forgetting_of, outcome_of, test_in}
+use Rattle.corrections_forget.specs.Forget.{forget, forget_in, forgetting_of, outcome_of, test_in}
 use Rattle.numeric.specs.Real.{in_range}
 use Rattle.corrections_epoch.specs.AddEpoch.{records_in_range, settings_in_range}
 use Rattle.corrections_epoch_columns.specs.Epoch.{records_short}
@@ -164,12 +165,12 @@ module _ (h : Caller) (e : Epoch) where
 module _ (h : Caller) (time : Float) where
   abbrev after : Bool → Bool → Bool → ℕ
   after x y z =
-      forgetting_number
+      answer_number
       (forgetting_of
-      (outcome_of (cond x (Test.Refused TooMany) (cond (not y) (Test.Refused RecordOutOfRange) (cond (not z) (Test.Refused BadDropTime) Test.Passed)))
+      (outcome_of (cond x (Err TooMany) (cond (not y) (Err RecordOutOfRange) (cond (not z) (Err BadDropTime) (Ok tt))))
       (directory_of (forget time (held_samples h)))))
 
-  drop-is : forgetting_number (forgetting_of (dropping_of h time))
+  drop-is : answer_number (forgetting_of (dropping_of h time))
       ≡ after (ltb (room h) h.entries || ltb (room h) h.samples) (sound_directory (directory h)) (finite time)
   unfolding forget_in test_in ruled
   drop-is = refl
@@ -265,14 +266,14 @@ joined_length (suc n) (x ∷ narrow) (y ∷ wide) h j = ap suc (joined_length n 
 
 module _ (n : ℕ) (narrow wide wide' : List ℕ) (number : ℕ) where
   -- the number, and what is left
-  abbrev Widens : Widening → Type 0
-  Widens o = (number ≡ widening_number o) × (wide' ≡ bands_after o n narrow wide)
+  abbrev Widens : Result ⊤ Refusal → Type 0
+  Widens o = (number ≡ answer_number o) × (wide' ≡ bands_after o n narrow wide)
 
-  widen-is : widening_number (widen_of n narrow wide) ≡ cond (bands_short n narrow wide) 2 0
+  widen-is : answer_number (widen_of n narrow wide) ≡ cond (bands_short n narrow wide) 2 0
   unfolding widen_of
   widen-is = go (bands_short n narrow wide)
     where
-      go : (x : Bool) → widening_number (cond x (Widening.Refused TooMany) Widening.Widened) ≡ cond x 2 0
+      go : (x : Bool) → answer_number {A = ⊤} (cond x (Err TooMany) (Ok tt)) ≡ cond x 2 0
       go true = refl
       go false = refl
 
@@ -286,7 +287,7 @@ module _ (n : ℕ) (narrow wide wide' : List ℕ) (number : ℕ) where
   unfolding widen_of bands_short
   left a = go (bands_short n narrow wide) refl a
     where
-      go : (x : Bool) → bands_short n narrow wide ≡ x → Widens (cond x (Widening.Refused TooMany) Widening.Widened) → Left
+      go : (x : Bool) → bands_short n narrow wide ≡ x → Widens (cond x (Err TooMany) (Ok tt)) → Left
       go true e a =
           record {
             refused = λ z. a.1;
@@ -303,7 +304,7 @@ module _ (n : ℕ) (narrow wide wide' : List ℕ) (number : ℕ) where
             past = λ i k. ap (λ (l : List ℕ). get_or l i 0) a.1 ∙ joined-past n narrow wide fits.in-narrow fits.in-wide i k;
           }
 
-  pub widen-number : (number ≡ widening_number (widen_of n narrow wide)) × (wide' ≡ bands_after (widen_of n narrow wide) n narrow wide)
+  pub widen-number : (number ≡ answer_number (widen_of n narrow wide)) × (wide' ≡ bands_after (widen_of n narrow wide) n narrow wide)
       → WidenNumber n narrow wide wide' number
   unfolding bands_short
   widen-number a =

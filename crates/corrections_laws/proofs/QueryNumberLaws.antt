@@ -1,4 +1,6 @@
 -- The number of one query and of many, by the contracts of the calls, and what a refusal leaves. Assumes nothing.
+use Rattle.numeric.specs.Refusal.{answer_number}
+use Rattle.std.specs.Prelude.{Result, Ok, Err}
 use mathlib.Core.Path.{◌≡◌, refl, sym, ap, subst, ◌∙◌}
 use mathlib.Core.List.{List, [], ◌∷◌}
 use mathlib.Core.Bool.{Bool, true, false, cond, not, ◌&&◌, ◌||◌}
@@ -21,10 +23,8 @@ use Rattle.signal.specs.Signal.{signal}
 use Rattle.corrections_table.specs.Table.{series_of}
 use Rattle.corrections_table.specs.declared.sample.Sample.{Sample}
 use Rattle.corrections_directory.specs.Directory.{Blocks, Directory, block_capacity, directory_in, flat, sound_directory}
-use Rattle.corrections_query.specs.Query.{Answers, Found, answer_at, answer_in, correction_rule, first_since, guarded, last_before, line, missing, near, near_or, pattern_after, query_in, query_number, spanned, the}
-use Rattle.corrections_query.specs.declared.query.Correction.{Correction}
-use Rattle.corrections_query.specs.declared.query.Correction.TheVariants.{Metres, Refused}
-use Rattle.corrections_queries.specs.Queries.{Asked, Replies, Reply, answers, asking_number, asking_of, number_after, places_short, queries_in, query_at, refusal, with_answers}
+use Rattle.corrections_query.specs.Query.{Answers, Found, answer_at, answer_in, correction_rule, first_since, guarded, last_before, line, missing, near, near_or, pattern_after, query_in, spanned, the}
+use Rattle.corrections_queries.specs.Queries.{Asked, Replies, Reply, answers, asking_of, number_after, places_short, queries_in, query_at, refusal, with_answers}
 use Rattle.corrections_queries.proofs.QueriesLaws.{written-length}
 use Rattle.corrections_laws.specs.Numbers.{QueriesNumber, QueryNumber, place_room, room_of}
 use Rattle.corrections_laws.proofs.PastLaws.{place-answers}
@@ -33,34 +33,34 @@ use Rattle.corrections_laws.proofs.NumberLaws.{either, ltb-min, neither, same-ro
 -- ---- one query
 
 -- the samples of a signal refuse a query by 12 alone
-spanned-refused : (gap t : Float) (f h : Found) (r : Refusal) → spanned gap t f h ≡ Refused r → number_of r ≡ 12
+spanned-refused : (gap t : Float) (f h : Found) (r : Refusal) → spanned gap t f h ≡ Err r → number_of r ≡ 12
 unfolding spanned
 spanned-refused gap t missing h r e = let k : NoCorrection ≡ r = cc in ap number_of (sym k)
 spanned-refused gap t (the a) missing r e = let k : NoCorrection ≡ r = cc in ap number_of (sym k)
 spanned-refused gap t (the a) (the b) r e = go (lt gap (b.time ⊖ a.time)) (line t a b) e
   where
-    go : (x : Bool) (y : Float) → cond x (Refused NoCorrection) (Metres y) ≡ Refused r → number_of r ≡ 12
+    go : (x : Bool) (y : Float) → cond x (Err NoCorrection) (Ok y) ≡ Err r → number_of r ≡ 12
     go true y e = let k : NoCorrection ≡ r = cc in ap number_of (sym k)
     go false y e = absurd (let z : ◌≡◌ {A = ℕ} 0 1 = cc in omega arith)
 
-near-refused : (t : Float) (f : Found) (rest : Correction) (r : Refusal) → (rest ≡ Refused r → number_of r ≡ 12) → near_or t f rest ≡ Refused r → number_of r ≡ 12
+near-refused : (t : Float) (f : Found) (rest : Result Float Refusal) (r : Refusal) → (rest ≡ Err r → number_of r ≡ 12) → near_or t f rest ≡ Err r → number_of r ≡ 12
 unfolding near_or
 near-refused t missing rest r k e = k e
 near-refused t (the s) rest r k e = go (near s.time t) e
   where
-    go : (x : Bool) → cond x (Metres s.correction) rest ≡ Refused r → number_of r ≡ 12
+    go : (x : Bool) → cond x (Ok s.correction) rest ≡ Err r → number_of r ≡ 12
     go true e = absurd (let z : ◌≡◌ {A = ℕ} 0 1 = cc in omega arith)
     go false e = k e
 
-answer-refused : (ss : List Sample) (gap : Float) (c v b : ℕ) (t : Float) (r : Refusal) → answer_at ss gap c v b t ≡ Refused r → number_of r ≡ 12
+answer-refused : (ss : List Sample) (gap : Float) (c v b : ℕ) (t : Float) (r : Refusal) → answer_at ss gap c v b t ≡ Err r → number_of r ≡ 12
 unfolding answer_at answer_in correction_rule
 answer-refused ss gap c v b t r e =
     let l = series_of (signal c v b) ss in
     near-refused t (first_since t l) _ r (near-refused t (last_before t l) _ r (spanned-refused gap t (last_before t l) (first_since t l) r)) e
 
-metres_stay : (q : Correction) (metres : ℕ) → (query_number q ≡ 0 → ⊥) → pattern_after q metres ≡ metres
-metres_stay (Refused r) metres n = refl
-metres_stay (Metres x) metres n = absurd (n refl)
+metres_stay : (q : Result Float Refusal) (metres : ℕ) → (answer_number q ≡ 0 → ⊥) → pattern_after q metres ≡ metres
+metres_stay (Err r) metres n = refl
+metres_stay (Ok x) metres n = absurd (n refl)
 
 time-passes : (t : Float) → (finite t ≡ true → in_range t ≡ true) → (in_range t || not (finite t)) ≡ true
 time-passes t k = go (finite t) k
@@ -71,16 +71,16 @@ time-passes t k = go (finite t) k
 
 -- a query, rule by rule
 module _ (m n room : ℕ) (d : Directory) (gap : Float) (c v b : ℕ) (t : Float) where
-  two : (ltb room m || ltb room n) ≡ true → query_in m n room d gap c v b t ≡ Refused TooMany
+  two : (ltb room m || ltb room n) ≡ true → query_in m n room d gap c v b t ≡ Err TooMany
   unfolding query_in guarded ruled
   two e = rw e
 
-  three : m ≤ room → n ≤ room → in_range gap ≡ false → query_in m n room d gap c v b t ≡ Refused SettingOutOfRange
+  three : m ≤ room → n ≤ room → in_range gap ≡ false → query_in m n room d gap c v b t ≡ Err SettingOutOfRange
   unfolding query_in guarded ruled
   three h k e = rw (le-ltb room m h, le-ltb room n k, e)
 
   four : m ≤ room → n ≤ room → in_range gap ≡ true → (sound_directory d && (in_range t || not (finite t))) ≡ false
-      → query_in m n room d gap c v b t ≡ Refused RecordOutOfRange
+      → query_in m n room d gap c v b t ≡ Err RecordOutOfRange
   unfolding query_in guarded ruled
   four h k e f = rw (le-ltb room m h, le-ltb room n k, e, f)
 
@@ -91,15 +91,15 @@ module _ (m n room : ℕ) (d : Directory) (gap : Float) (c v b : ℕ) (t : Float
 
   by_answer : (number metres metres' : ℕ) → Answers (query_in m n room d gap c v b t) number metres metres' → QueryNumber m n room d gap c v b t number metres metres'
   by_answer number metres metres' a =
-      let is : (q : Correction) → query_in m n room d gap c v b t ≡ q → number ≡ query_number q = λ q e. a.number_is ∙ ap query_number e in
+      let is : (q : Result Float Refusal) → query_in m n room d gap c v b t ≡ q → number ≡ answer_number q = λ q e. a.number_is ∙ ap answer_number e in
       record {
-        many-entries = λ h. is (Refused TooMany) (two (rw (lt-ltb room m h)));
-        many-samples = λ h. is (Refused TooMany) (two (rw (lt-ltb room n h) (either (ltb room m))));
-        bad-gap = λ h k e. is (Refused SettingOutOfRange) (three h k e);
-        not_sound = λ h k e f. is (Refused RecordOutOfRange) (four h k e (rw f));
-        bad-time = λ h k e f g. is (Refused RecordOutOfRange) (four h k e (rw (f, g) (neither (sound_directory d))));
-        none = λ h k e f g r z. is (Refused r) (passed h k e f g ∙ z) ∙ answer-refused (flat d) gap c v b t r z;
-        given = λ h k e f g x z. (is (Metres x) (passed h k e f g ∙ z), a.metres_are ∙ ap (λ (q : Correction). pattern_after q metres) (passed h k e f g ∙ z));
+        many-entries = λ h. is (Err TooMany) (two (rw (lt-ltb room m h)));
+        many-samples = λ h. is (Err TooMany) (two (rw (lt-ltb room n h) (either (ltb room m))));
+        bad-gap = λ h k e. is (Err SettingOutOfRange) (three h k e);
+        not_sound = λ h k e f. is (Err RecordOutOfRange) (four h k e (rw f));
+        bad-time = λ h k e f g. is (Err RecordOutOfRange) (four h k e (rw (f, g) (neither (sound_directory d))));
+        none = λ h k e f g r z. is (Err r) (passed h k e f g ∙ z) ∙ answer-refused (flat d) gap c v b t r z;
+        given = λ h k e f g x z. (is (Ok x) (passed h k e f g ∙ z), a.metres_are ∙ ap (λ (q : Result Float Refusal). pattern_after q metres) (passed h k e f g ∙ z));
         refused = λ z. a.metres_are ∙ metres_stay (query_in m n room d gap c v b t) metres (λ y. z (a.number_is ∙ y));
       }
 
@@ -130,7 +130,7 @@ short-is q numbers metres =
     )
 
 -- places past the answers
-written-past : (f : Correction → ℕ → ℕ) (l : List Correction) (xs : List ℕ) (i : ℕ) → length l ≤ i → get_or (with_answers f l xs) i 0 ≡ get_or xs i 0
+written-past : (f : Result Float Refusal → ℕ → ℕ) (l : List (Result Float Refusal)) (xs : List ℕ) (i : ℕ) → length l ≤ i → get_or (with_answers f l xs) i 0 ≡ get_or xs i 0
 unfolding with_answers
 written-past f [] xs i h = refl
 written-past f (a ∷ l) [] i h = refl
@@ -162,7 +162,7 @@ module _ (m n room : ℕ) (d : Directory) (gap : Float) (q : Asked) (numbers met
     all-passed e f = rw (le-ltb room m h, le-ltb room n k, enough, e, f)
 
   -- a reply that is no refusal has as many answers as places count
-  many : (l : List Correction) → queries_in m n room d gap q numbers metres ≡ answers l → length l ≡ q.count
+  many : (l : List (Result Float Refusal)) → queries_in m n room d gap q numbers metres ≡ answers l → length l ≡ q.count
   unfolding queries_in ruled
   many l e = go ((ltb room m || ltb room n) || short) (not (in_range gap)) (not (sound_directory d)) e
     where
@@ -182,7 +182,7 @@ module _ (m n room : ℕ) (d : Directory) (gap : Float) (q : Asked) (numbers met
       same_lengths : (length numbers' ≡ length numbers) × (length metres' ≡ length metres)
       past : (i : ℕ) → q.count ≤ i → (get_or numbers' i 0 ≡ get_or numbers i 0) × (get_or metres' i 0 ≡ get_or metres i 0)
 
-    left : (o : Reply) → ((l : List Correction) → o ≡ answers l → length l ≡ q.count) → Replies o number numbers metres numbers' metres' → Left
+    left : (o : Reply) → ((l : List (Result Float Refusal)) → o ≡ answers l → length l ≡ q.count) → Replies o number numbers metres numbers' metres' → Left
     left (refusal r) k a =
         record {
           refused = λ z. (a.numbers_after, a.metres_after);
@@ -202,8 +202,8 @@ module _ (m n room : ℕ) (d : Directory) (gap : Float) (q : Asked) (numbers met
     by-reply : Replies (queries_in m n room d gap q numbers metres) number numbers metres numbers' metres'
         → QueriesNumber m n room d gap q number numbers metres numbers' metres'
     by-reply a =
-        let is : (o : Reply) → queries_in m n room d gap q numbers metres ≡ o → number ≡ asking_number (asking_of o) =
-        λ o e. a.number_is ∙ ap (λ (x : Reply). asking_number (asking_of x)) e in
+        let is : (o : Reply) → queries_in m n room d gap q numbers metres ≡ o → number ≡ answer_number (asking_of o) =
+        λ o e. a.number_is ∙ ap (λ (x : Reply). answer_number (asking_of x)) e in
         let w = left (queries_in m n room d gap q numbers metres) many a in
         record {
           many-entries = λ h. is (refusal TooMany) (all_two (rw (lt-ltb room m h)));

@@ -1,4 +1,6 @@
 -- Request (x): queries after any list of added epochs and drops on one caller's table. Assumes nothing.
+use Rattle.std.specs.Prelude.{Result, Float}
+use Rattle.numeric.specs.declared.refusal.Refusal.{Refusal}
 use mathlib.Core.Path.{◌≡◌, refl, sym, ap, subst, ◌∙◌}
 use mathlib.Core.List.{List, [], ◌∷◌}
 use mathlib.Core.Bool.{Bool, true, false}
@@ -10,7 +12,6 @@ use Rattle.corrections_table.specs.declared.sample.Sample.{Sample}
 use Rattle.corrections_table.proofs.Places.{sorted_rises}
 use Rattle.corrections_directory.specs.Directory.{sound_directory}
 use Rattle.corrections_directory.proofs.DirectoryLaws.{sound-flat}
-use Rattle.corrections_query.specs.declared.query.Correction.{Correction}
 use Rattle.corrections_forget.specs.History.{Event, allowed, happen, history, undropped}
 use Rattle.corrections_forget.proofs.HistoryLaws.{history-law, sorted_of}
 use Rattle.corrections_query.specs.Query.{Answers, Passes}
@@ -75,12 +76,12 @@ module _ (h h' : Caller) (cs : List Call) (ks : List ℕ) (run : CallRun h cs ks
   -- it answers by the samples that the table then holds, before a drop or not
   pub query_held : Answers (answer_by (history (held_samples h) (accepted_calls cs ks)) q) number metres metres'
   query_held =
-      subst (λ (a : Correction). Answers a number metres metres')
+      subst (λ (a : Result Float Refusal). Answers a number metres metres')
       (query_passed h'.entries h'.samples (room h') (directory h') q.gap q.constellation q.svid q.band q.time passes ∙ ap (λ (t : List Sample). answer_by t q) (run-held run)) asked
 
   -- not before any accepted drop, where no accepted epoch is earlier than a drop before it, it answers by the samples held at the start and all that were added
   pub query_undropped : allowed q.time (accepted_calls cs ks) ≡ true → Answers (answer_by (history (held_samples h) (undropped (accepted_calls cs ks))) q) number metres metres'
-  query_undropped al = subst (λ (a : Correction). Answers a number metres metres') (go (sound_directory (directory h)) refl) query_held
+  query_undropped al = subst (λ (a : Result Float Refusal). Answers a number metres metres') (go (sound_directory (directory h)) refl) query_held
     where
       nothing : (es : List Event) → es ≡ [] → answer_by (history (held_samples h) es) q ≡ answer_by (history (held_samples h) (undropped es)) q
       nothing es e = unfold undropped in rw e

@@ -1,4 +1,7 @@
 -- Request (ix): for every list of queries and added epochs both forms of a table tell the same and stay the same. Assumes nothing.
+use Rattle.numeric.specs.Refusal.{answer_number}
+use Rattle.std.specs.Prelude.{Option, Result}
+use Rattle.numeric.specs.declared.refusal.Refusal.{Refusal}
 use mathlib.Core.Path.{◌≡◌, refl, sym, ap, subst, ◌∙◌}
 use mathlib.Core.List.{List, [], ◌∷◌, ◌++◌, map}
 use mathlib.Core.Bool.{Bool, true, false, cond}
@@ -25,8 +28,7 @@ use Rattle.corrections_directory.proofs.DirectoryLaws.{flat-directory}
 use Rattle.corrections_directory.proofs.NarrowLaws.{narrow}
 use Rattle.corrections_add.specs.Add as Add
 use Rattle.corrections_add.specs.Add.{Placed, added_in, directory_with, flat_outcome, refused_in}
-use Rattle.corrections_query.specs.Query.{pattern_after, query_in, query_number, query_of}
-use Rattle.corrections_query.specs.declared.query.Correction.{Correction}
+use Rattle.corrections_query.specs.Query.{pattern_after, query_in, query_of}
 use Rattle.corrections_query.proofs.FormLaws.{query_same}
 use Rattle.corrections_epoch.specs.AddEpoch.{added_of, epoch_placed}
 use Rattle.corrections_epoch.specs.declared.record.BaseEpoch.{BaseEpoch}
@@ -52,7 +54,7 @@ answers-same : (t : List Sample) (n m k k' : ℕ) (d : Directory) (q : Query) �
 answers-same t n m k k' d q w s l e f g = rw (e, f, g, same_entries t) (query_same t w s n k' l q.gap q.constellation q.svid q.band q.time)
 
 -- ---- one epoch
-outcomes_same : (t : List Sample) (n m k k' : ℕ) (d : Directory) (e : BaseEpoch) (s : States) (base rover : Vec3) (set : Settings) → every narrow t ≡ true → sorted t ≡ true → length t ≤ n → d ≡ directory_of t → m ≡ length (directory_of t).entries → k ≡ k'
+outcomes_same : (t : List Sample) (n m k k' : ℕ) (d : Directory) (e : BaseEpoch) (s : Option States) (base rover : Vec3) (set : Settings) → every narrow t ≡ true → sorted t ≡ true → length t ≤ n → d ≡ directory_of t → m ≡ length (directory_of t).entries → k ≡ k'
     → flat_outcome (epoch_placed m n k d e s base rover set) ≡ added_of n k' t e s base rover set
 outcomes_same t n m k k' d e s base rover set w r l f g i = rw (f, g, i) (epoch-same t n k' e s base rover set w r l)
 
@@ -90,11 +92,11 @@ module _ (o : Table) (h : Caller) (b : Both o h) where
   held_both : held_samples h ≡ samples_in o
   held_both = ap flat b.forms.holds ∙ flat-directory (samples_in o)
 
-flat-number : (p : Placed) → Add.addition_number (Add.addition_of p) ≡ flat_number (flat_outcome p)
+flat-number : (p : Placed) → answer_number (Add.addition_of p) ≡ flat_number (flat_outcome p)
 flat-number (refused_in r) = refl
 flat-number (added_in d) = refl
 
-flat-kept : (p : Placed) (o : Table) → (Add.addition_number (Add.addition_of p) ≡ 0 → ⊥) → table_after (flat_outcome p) o ≡ o
+flat-kept : (p : Placed) (o : Table) → (answer_number (Add.addition_of p) ≡ 0 → ⊥) → table_after (flat_outcome p) o ≡ o
 flat-kept (refused_in r) o n = refl
 flat-kept (added_in d) o n = absurd (n refl)
 
@@ -230,7 +232,7 @@ steps o done b w = (refl, b)
 steps o (asked {h = h} {h' = h'} {q = q} {metres = metres} {number = number} {metres' = metres'} {ss = ss} {ts = ts} a r) b w =
     let e = query_both o h b q in
     let goes = steps o r b w in
-    (told (a.number_is ∙ ap query_number e) (a.metres_are ∙ ap (λ (c : Correction). pattern_after c metres) e) goes.0, goes.1)
+    (told (a.number_is ∙ ap answer_number e) (a.metres_are ∙ ap (λ (c : Result Float Refusal). pattern_after c metres) e) goes.0, goes.1)
   where
     told : {i j x y : ℕ} {l m : List Told} → i ≡ j → x ≡ y → l ≡ m → answered i x ∷ l ≡ answered j y ∷ m
     told p q r = rw (p, q, r)

@@ -1,4 +1,6 @@
 -- One call on a caller's table: what a refusal and what an accepted call leave, and when an epoch meets 11. Assumes nothing.
+use Rattle.numeric.specs.Refusal.{answer_number}
+use Rattle.std.specs.Prelude.{Ok, Err}
 use mathlib.Core.Path.{◌≡◌, refl, sym, ap, ◌∙◌}
 use mathlib.Core.List.{List}
 use mathlib.Core.Bool.{Bool, true, false, cond, not, ◌&&◌, ◌||◌}
@@ -26,17 +28,17 @@ use Rattle.corrections_directory.specs.Directory.{block_capacity, Blocks, blocks
 use Rattle.corrections_directory.proofs.DirectoryLaws.{flat-directory, sound-flat}
 use Rattle.corrections_directory.proofs.ColumnLaws.{flat-length}
 use Rattle.corrections_add.specs.Add as Add
-use Rattle.corrections_add.specs.Add.{added_in, addition_number, directory_with, PatternsAfter, Placed, Places, refused_in}
+use Rattle.corrections_add.specs.Add.{added_in, directory_with, PatternsAfter, Placed, Places, refused_in}
 use Rattle.corrections_add.proofs.SameLaws.{few-entries}
-use Rattle.corrections_forget.specs.Forget.{Forgets, ForgetOutcome, forget, forget_in, forgetting_number, forgetting_of, leaves, outcome_of, refused, test_in}
-use Rattle.corrections_table.specs.declared.add.Test.TheVariants as Test
+use Rattle.corrections_forget.specs.Forget.{Forgets, ForgetOutcome, forget, forget_in, forgetting_of, leaves, outcome_of, refused, test_in}
 use Rattle.corrections_forget.proofs.HistoryLaws.{forget-length}
 use Rattle.corrections_forget.proofs.FormLaws.{columns-hold}
 use Rattle.corrections_forget.proofs.ForgetLaws.{forget-sound}
 use Rattle.corrections_epoch.specs.AddEpoch.{epoch_placed, records_in_range, settings_in_range, too_many}
 use Rattle.corrections_epoch.specs.Sample.{epoch_samples}
 use Rattle.corrections_epoch.proofs.EpochLaws.{samples-ranged, time-in-range}
-use Rattle.corrections_epoch_columns.specs.Epoch.{entry_in}
+use Rattle.corrections_epoch.specs.Record.{states_count}
+use Rattle.corrections_epoch_columns.specs.Epoch.{entry_in, states_in}
 use Rattle.corrections_laws.specs.Calls.{Caller, Epoch, AddsEpoch, Drops, adding_of, base_epoch, as_blocks, directory, dropping_of, held_samples, new_samples, room, short_of, states_beside, EpochPasses}
 use Rattle.corrections_forget.specs.Forget as Forgetting
 use Rattle.corrections_laws.proofs.ColumnLaws.{same-capacity, with-holds}
@@ -52,6 +54,14 @@ pub record Turned (o : Placed) : Type 0 where
   pub is : o ≡ refused_in why
   pub early : number_of why ≤ 4
 
+-- how many states count
+states-counted : (e : Epoch) → states_count (states_beside e) ≡ cond e.present e.states 0
+states-counted e = go e.present
+  where
+    go : (p : Bool) → states_count (states_in p e.states e.state-constellations e.state-svids e.state-bands e.state-floats) ≡ cond p e.states 0
+    go true = refl
+    go false = refl
+
 module _ (h : Caller) (e : Epoch) where
   pub passed : EpochPasses h e → adding_of h e ≡ cond (ltb (room h) (h.samples + length (new_samples e))) (refused_in TableFull) (added_in (directory_with (directory h) (new_samples e)))
   unfolding entry_in epoch_placed too_many ruled
@@ -61,7 +71,7 @@ module _ (h : Caller) (e : Epoch) where
         le-ltb (room h) h.entries p.few-entries,
         le-ltb (room h) h.samples p.few-samples,
         le-ltb 64 e.ranges p.few-ranges,
-        le-ltb 64 (cond e.present e.states 0) p.few-states,
+        le-ltb 64 (states_count (states_beside e)) (rw (states-counted e) p.few-states),
         p.settings-in-range,
         p.records-in-range,
         p.sound,
@@ -71,10 +81,10 @@ module _ (h : Caller) (e : Epoch) where
   pub decide : {A : Type 0} → (EpochPasses h e → A) → (Turned (adding_of h e) → A) → A
   unfolding entry_in epoch_placed too_many ruled
   decide {A} good bad =
-      go (short_of e) (ltb (room h) h.entries) (ltb (room h) h.samples) (ltb 64 e.ranges) (ltb 64 (cond e.present e.states 0)) (settings_in_range e.settings)
+      go (short_of e) (ltb (room h) h.entries) (ltb (room h) h.samples) (ltb 64 e.ranges) (ltb 64 (states_count (states_beside e))) (settings_in_range e.settings)
       (records_in_range (base_epoch e) (states_beside e) e.base e.rover) (sound_directory (directory h)) refl refl refl refl refl refl refl refl bad
     where
-      go : (a b c d f g i j : Bool) → short_of e ≡ a → ltb (room h) h.entries ≡ b → ltb (room h) h.samples ≡ c → ltb 64 e.ranges ≡ d → ltb 64 (cond e.present e.states 0) ≡ f
+      go : (a b c d f g i j : Bool) → short_of e ≡ a → ltb (room h) h.entries ≡ b → ltb (room h) h.samples ≡ c → ltb 64 e.ranges ≡ d → ltb 64 (states_count (states_beside e)) ≡ f
           → settings_in_range e.settings ≡ g → records_in_range (base_epoch e) (states_beside e) e.base e.rover ≡ i → sound_directory (directory h) ≡ j
           → (Turned (cond a (refused_in TooMany) (cond (b || (c || d || f)) (refused_in TooMany) (cond (not g) (refused_in SettingOutOfRange) (cond (not (i && j)) (refused_in RecordOutOfRange) (cond (ltb (room h) (h.samples + length (new_samples e))) (refused_in TableFull) (added_in (directory_with (directory h) (new_samples e)))))))) → A)
           → A
@@ -92,7 +102,7 @@ module _ (h : Caller) (e : Epoch) where
             few-entries = ltb-false (room h) h.entries q;
             few-samples = ltb-false (room h) h.samples r;
             few-ranges = ltb-false 64 e.ranges s;
-            few-states = ltb-false 64 (cond e.present e.states 0) t;
+            few-states = rw (states-counted e) at (ltb-false 64 (states_count (states_beside e)) t);
             long-columns = p;
             settings-in-range = u;
             records-in-range = v;
@@ -112,7 +122,7 @@ module _ (h : Caller) (e : Epoch) (number : ℕ) (h' : Caller) (a : AddsEpoch h 
   number_is : EpochPasses h e → number ≡ cond (ltb (room h) (length (held_samples h) + length (new_samples e))) 11 0
   number_is p = a.places.number_is ∙ rw (passed h e p, holds-all p) (go (ltb (room h) (h.samples + length (new_samples e))))
     where
-      go : (x : Bool) → addition_number (Add.addition_of (Cond x (directory_with (directory h) (new_samples e)))) ≡ cond x 11 0
+      go : (x : Bool) → answer_number (Add.addition_of (Cond x (directory_with (directory h) (new_samples e)))) ≡ cond x 11 0
       go true = refl
       go false = refl
 
@@ -235,12 +245,12 @@ record DropPasses (h : Caller) (time : Float) : Type 0 where
   is_finite : finite time ≡ true
   is : dropping_of h time ≡ leaves (directory_of (forget time (held_samples h)))
 
-drop-passes : (h : Caller) (time : Float) → 0 ≡ forgetting_number (forgetting_of (dropping_of h time)) → DropPasses h time
+drop-passes : (h : Caller) (time : Float) → 0 ≡ answer_number (forgetting_of (dropping_of h time)) → DropPasses h time
 unfolding forget_in test_in ruled
 drop-passes h time e = go (ltb (room h) h.entries) (ltb (room h) h.samples) (sound_directory (directory h)) (finite time) refl refl refl refl e
   where
     go : (a b c d : Bool) → ltb (room h) h.entries ≡ a → ltb (room h) h.samples ≡ b → sound_directory (directory h) ≡ c → finite time ≡ d
-        → 0 ≡ forgetting_number (forgetting_of (outcome_of (cond (a || b) (Test.Refused TooMany) (cond (not c) (Test.Refused RecordOutOfRange) (cond (not d) (Test.Refused BadDropTime) Test.Passed))) (directory_of (forget time (held_samples h))))) → DropPasses h time
+        → 0 ≡ answer_number (forgetting_of (outcome_of (cond (a || b) (Err TooMany) (cond (not c) (Err RecordOutOfRange) (cond (not d) (Err BadDropTime) (Ok tt)))) (directory_of (forget time (held_samples h))))) → DropPasses h time
     go true b c d p q r s z = absurd (not-zero TooMany (sym z))
     go false true c d p q r s z = absurd (not-zero TooMany (sym z))
     go false false false d p q r s z = absurd (not-zero RecordOutOfRange (sym z))
@@ -293,11 +303,12 @@ pub number_by_lem : (h : Caller) (e : Epoch) (number : ℕ) (h' : Caller) → Ad
 unfolding entry_in epoch_placed too_many ruled
 number_by_lem h e number h' s =
     s.places.number_is
-    ∙ go (short_of e) (ltb (room h) h.entries) (ltb (room h) h.samples) (ltb 64 e.ranges) (ltb 64 (cond e.present e.states 0)) (settings_in_range e.settings)
+    ∙ go (short_of e) (ltb (room h) h.entries) (ltb (room h) h.samples) (ltb 64 e.ranges) (ltb 64 (states_count (states_beside e))) (settings_in_range e.settings)
     (records_in_range (base_epoch e) (states_beside e) e.base e.rover) (sound_directory (directory h)) (ltb (room h) (h.samples + length (new_samples e)))
+    ∙ ap (λ (k : ℕ). number_by (short_of e) (ltb (room h) h.entries) (ltb (room h) h.samples) (ltb 64 e.ranges) (ltb 64 k) (settings_in_range e.settings) (records_in_range (base_epoch e) (states_beside e) e.base e.rover) (sound_directory (directory h)) (ltb (room h) (h.samples + length (new_samples e)))) (states-counted e)
   where
     go : (a b c d f g i j x : Bool)
-        → addition_number (Add.addition_of (cond a (refused_in TooMany) (cond (b || (c || d || f)) (refused_in TooMany) (cond (not g) (refused_in SettingOutOfRange) (cond (not (i && j)) (refused_in RecordOutOfRange) (cond x (refused_in TableFull) (added_in (directory_with (directory h) (new_samples e)))))))))
+        → answer_number (Add.addition_of (cond a (refused_in TooMany) (cond (b || (c || d || f)) (refused_in TooMany) (cond (not g) (refused_in SettingOutOfRange) (cond (not (i && j)) (refused_in RecordOutOfRange) (cond x (refused_in TableFull) (added_in (directory_with (directory h) (new_samples e)))))))))
         ≡ number_by a b c d f g i j x
     go true b c d f g i j x = refl
     go false true c d f g i j x = refl

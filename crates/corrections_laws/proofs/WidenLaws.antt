@@ -1,4 +1,6 @@
 -- Request (ii): an old table whose bands are widened and which is then rearranged answers as it did. Assumes nothing.
+use Rattle.numeric.specs.Refusal.{answer_number}
+use Rattle.std.specs.Prelude.{Ok, Err, ⊤}
 use mathlib.Core.Path.{◌≡◌, refl, sym, ap, subst, ◌∙◌}
 use mathlib.Core.List.{List, [], ◌∷◌, ◌++◌, map}
 use mathlib.Core.Bool.{Bool, true, false, cond, not, ◌&&◌, ◌||◌}
@@ -14,9 +16,8 @@ use Rattle.numeric.specs.declared.refusal.Refusal.TheVariants.{TooMany, SettingO
 use Rattle.numeric.proofs.RefusalLaws.{not-zero}
 use Rattle.corrections_table.specs.Table.{beside, capacity, lent_samples, rows, sound_table, table_of}
 use Rattle.corrections_table.specs.Add.{AddOutcome, added, insert_all, refused}
-use Rattle.corrections_table.specs.Widen.{bands_after, bands_short, widen_of, widened, widening_number}
+use Rattle.corrections_table.specs.Widen.{bands_after, bands_short, widen_of, widened}
 use Rattle.corrections_table.specs.declared.sample.Sample.{Sample}
-use Rattle.corrections_table.specs.declared.widen.Widening.TheVariants.{Refused, Widened}
 use Rattle.corrections_table.proofs.TableLaws.{and_left, and_right}
 use Rattle.corrections_table.proofs.Places.{sorted_rises}
 use Rattle.corrections_table.proofs.WidenLaws.{Roomy, capacity-widened, not_short, table-widened}
@@ -34,19 +35,19 @@ use Rattle.corrections_laws.proofs.SameLaws.{same_entries, same_left, same-told}
 
 -- what an answer of 0 says
 record Widens (n : ℕ) (narrow wide : List ℕ) : Type 0 where
-  is : widen_of n narrow wide ≡ Widened
+  is : widen_of n narrow wide ≡ (Ok tt)
   fits : Roomy n narrow wide
 
-widens : (n : ℕ) (narrow wide : List ℕ) → 0 ≡ widening_number (widen_of n narrow wide) → Widens n narrow wide
+widens : (n : ℕ) (narrow wide : List ℕ) → 0 ≡ answer_number (widen_of n narrow wide) → Widens n narrow wide
 unfolding widen_of bands_short
 widens n narrow wide e = go (ltb 2048 n || ltb (length narrow) n || ltb (length wide) n) refl e
   where
-    go : (x : Bool) → (ltb 2048 n || ltb (length narrow) n || ltb (length wide) n) ≡ x → 0 ≡ widening_number (cond x (Refused TooMany) Widened) → Widens n narrow wide
+    go : (x : Bool) → (ltb 2048 n || ltb (length narrow) n || ltb (length wide) n) ≡ x → 0 ≡ answer_number {A = ⊤} (cond x (Err TooMany) (Ok tt)) → Widens n narrow wide
     go true p z = absurd (not-zero TooMany (sym z))
     go false p z = record { is = rw p; fits = not_short n narrow wide p }
 
 -- `zaqnuti_widen_bands` and `zaqnuti_directory_of` answer 0, the wide column is as long as the narrow one, and the capacity is the old one
-module _ (o : Table) (wide wide' : List ℕ) (widening : (0 ≡ widening_number (widen_of o.samples o.bands wide)) × (wide' ≡ bands_after (widen_of o.samples o.bands wide) o.samples o.bands wide))
+module _ (o : Table) (wide wide' : List ℕ) (widening : (0 ≡ answer_number (widen_of o.samples o.bands wide)) × (wide' ≡ bands_after (widen_of o.samples o.bands wide) o.samples o.bands wide))
     (as_long : length wide ≡ length o.bands) (m : ℕ) (dc dv db df dn : List ℕ) (h : Caller) (samples-are : h.samples ≡ o.samples) (same-times : h.times ≡ o.times) (same-corrections : h.corrections ≡ o.corrections)
     (files : Files (filed_of o.samples (length (entry_rows dc dv db df dn)) (lent_samples o.constellations o.svids wide' (floats o.times) (floats o.corrections))) 0 m h.entries
     (lent_blocks dc dv db df dn (floats o.times) (floats o.corrections)) (as_blocks h))

@@ -1,11 +1,12 @@
 -- The calls on one caller's table, by the contracts' own statements, and lists of them, each call on what the last one left. Definitions only.
+use Rattle.std.specs.Prelude.{Option, Result}
+use Rattle.numeric.specs.declared.refusal.Refusal.{Refusal}
 use Rattle.std.specs.Prelude.{ℕ, ◌≤◌, ◌≡◌, Bool, true, false, cond, List, [], ◌∷◌, eqb, length, Float}
 use Rattle.numeric.specs.declared.vec3.Vec3.{Vec3}
 use Rattle.corrections_table.specs.declared.sample.Sample.{Sample}
 use Rattle.corrections_directory.specs.Directory.{block_capacity, Blocks, blocks_with, Directory, directory_in, directory_of, flat, floats, lent_blocks, PatternsWith, sound_directory}
 use Rattle.corrections_add.specs.Add.{PatternsAfter, Placed, Places}
 use Rattle.corrections_query.specs.Query.{answer_at, Answers, query_in}
-use Rattle.corrections_query.specs.declared.query.Correction.{Correction}
 use Rattle.corrections_forget.specs.Forget.{ForgetOutcome, Forgets, forget_in}
 use Rattle.corrections_forget.specs.History.{Event, add, drop}
 use Rattle.corrections_epoch.specs.AddEpoch.{records_in_range, settings_in_range}
@@ -80,7 +81,7 @@ held_samples h = flat (directory h)
 abbrev pub base_epoch : Epoch → BaseEpoch
 base_epoch e = base_epoch_of e.time e.ranges e.range-constellations e.range-svids e.range-bands e.pseudoranges
 
-abbrev pub states_beside : Epoch → States
+abbrev pub states_beside : Epoch → Option States
 states_beside e = states_in e.present e.states e.state-constellations e.state-svids e.state-bands e.state-floats
 
 abbrev pub new_samples : Epoch → List Sample
@@ -116,11 +117,11 @@ pub record Drops (h : Caller) (time : Float) (number : ℕ) (h' : Caller) : Type
   pub patterns : Forgetting.PatternsAfter (dropping_of h time) h.times h.corrections h'.times h'.corrections
 
 -- the answer to a query
-abbrev pub query_on : Caller → Query → Correction
+abbrev pub query_on : Caller → Query → Result Float Refusal
 query_on h q = query_in h.entries h.samples (room h) (directory h) q.gap q.constellation q.svid q.band q.time
 
 -- the answer by samples, once 2 to 4 pass
-abbrev pub answer_by : List Sample → Query → Correction
+abbrev pub answer_by : List Sample → Query → Result Float Refusal
 answer_by t q = answer_at t q.gap q.constellation q.svid q.band q.time
 
 -- `zaqnuti_query` gave the number, and left metres' where metres was

@@ -1,4 +1,7 @@
 -- The old form of a table, five lent columns: its query and its added epoch, lists of both on either form, and its way into the second form. Definitions only.
+use Rattle.numeric.specs.Refusal.{answer_number}
+use Rattle.std.specs.Prelude.{Result, Float}
+use Rattle.numeric.specs.declared.refusal.Refusal.{Refusal}
 use Rattle.std.specs.Prelude.{ℕ, ◌^◌, ◌≤◌, ◌<◌, ◌≡◌, true, cond, List, [], ◌∷◌, length, get_or}
 use Rattle.lists.specs.Walk.{fold}
 use Rattle.numeric.specs.Order.{pattern_of}
@@ -6,12 +9,11 @@ use Rattle.numeric.specs.Refusal.{number_of}
 use Rattle.numeric.specs.declared.refusal.Refusal.TheVariants.{TooMany}
 use Rattle.corrections_table.specs.Table.{Columns, capacity, lent_samples, sorted, table_of}
 use Rattle.corrections_table.specs.Add.{AddOutcome, added, refused}
-use Rattle.corrections_table.specs.Widen.{bands_after, widen_of, widening_number}
+use Rattle.corrections_table.specs.Widen.{bands_after, widen_of}
 use Rattle.corrections_table.specs.declared.sample.Sample.{Sample}
 use Rattle.corrections_directory.specs.Directory.{column_of, directory_of, entries_in, floats}
 use Rattle.corrections_directory.specs.Rearrange.{filed_of}
-use Rattle.corrections_query.specs.Query.{pattern_after, query_number, query_of}
-use Rattle.corrections_query.specs.declared.query.Correction.{Correction}
+use Rattle.corrections_query.specs.Query.{pattern_after, query_of}
 use Rattle.corrections_epoch.specs.AddEpoch.{added_of}
 use Rattle.corrections_convert.specs.Lent.{Files}
 use Rattle.corrections_laws.specs.Calls.{AddsEpoch, as_blocks, Asks, Caller, Epoch, Query, base_epoch, directory, room, short_of, states_beside}
@@ -40,7 +42,7 @@ abbrev pub samples_in : Table → List Sample
 samples_in o = table_of o.samples (five_columns o)
 
 -- a query: numbers 2 to 4 of the table, and then its answer
-abbrev pub flat_answer : Table → Query → Correction
+abbrev pub flat_answer : Table → Query → Result Float Refusal
 flat_answer o q = query_of o.samples (room_in o) (samples_in o) q.gap q.constellation q.svid q.band q.time
 
 -- an added epoch: the refusal, or the samples with the epoch's
@@ -85,7 +87,7 @@ pub data Told : Type 0 where
 
 -- what the old form tells at a step, and what it leaves
 abbrev pub flat_told : Table → Step → Told
-flat_told o (ask q metres) = answered (query_number (flat_answer o q)) (pattern_after (flat_answer o q) metres)
+flat_told o (ask q metres) = answered (answer_number (flat_answer o q)) (pattern_after (flat_answer o q) metres)
 flat_told o (enter e) = numbered (flat_number (flat_addition o e))
 
 abbrev pub flat_left : Table → Step → Table
@@ -134,7 +136,7 @@ step_columns (enter e ∷ ss) = u16 e.range-svids ∷ u32 e.range-bands ∷ step
 
 -- `zaqnuti_widen_bands` on the table's bands gave the number, and left wide' where wide was
 pub record WidensBands (o : Table) (wide : List ℕ) (number : ℕ) (wide' : List ℕ) : Type 0 where
-  pub number_is : number ≡ widening_number (widen_of o.samples o.bands wide)
+  pub number_is : number ≡ answer_number (widen_of o.samples o.bands wide)
   pub bands-are : wide' ≡ bands_after (widen_of o.samples o.bands wide) o.samples o.bands wide
 
 -- the table with another column of bands

@@ -1,4 +1,5 @@
 -- The number that each call answers, in checking order, and what a refusal leaves, in plain conditions on what the call is lent. Definitions only.
+use Rattle.std.specs.Prelude.{Ok, Err}
 use Rattle.std.specs.Prelude.{ℕ, min, ◌+◌, ◌*◌, ◌≤◌, ◌<◌, ◌≡◌, true, false, cond, List, length, get_or, Float}
 use Rattle.std.specs.Float.Ieee.Scale.{finite}
 use Rattle.numeric.specs.Order.{pattern_of}
@@ -7,7 +8,6 @@ use Rattle.numeric.specs.declared.refusal.Refusal.{Refusal}
 use Rattle.corrections_table.specs.Table.{Columns, sound_table, table_of}
 use Rattle.corrections_directory.specs.Directory.{Blocks, Directory, directory_in, flat, sound_directory}
 use Rattle.corrections_query.specs.Query.{answer_at}
-use Rattle.corrections_query.specs.declared.query.Correction.TheVariants.{Metres, Refused}
 use Rattle.corrections_queries.specs.Queries.{Asked}
 use Rattle.corrections_epoch.specs.AddEpoch.{records_in_range}
 use Rattle.corrections_laws.specs.Calls.{Caller, Epoch, as_blocks, base_epoch, directory, new_samples, states_beside}
@@ -90,9 +90,9 @@ pub record QueryNumber (m n room : ℕ) (d : Directory) (gap : Float) (c v b : �
   pub bad-time : m ≤ room → n ≤ room → in_range gap ≡ true → finite t ≡ true → in_range t ≡ false → number ≡ 4
   -- a time that is not finite passes 4; then the samples held refuse it, or give a correction
   pub none : m ≤ room → n ≤ room → in_range gap ≡ true → sound_directory d ≡ true → (finite t ≡ true → in_range t ≡ true)
-      → (r : Refusal) → answer_at (flat d) gap c v b t ≡ Refused r → number ≡ 12
+      → (r : Refusal) → answer_at (flat d) gap c v b t ≡ Err r → number ≡ 12
   pub given : m ≤ room → n ≤ room → in_range gap ≡ true → sound_directory d ≡ true → (finite t ≡ true → in_range t ≡ true)
-      → (x : Float) → answer_at (flat d) gap c v b t ≡ Metres x → (number ≡ 0) × (metres' ≡ pattern_of x)
+      → (x : Float) → answer_at (flat d) gap c v b t ≡ Ok x → (number ≡ 0) × (metres' ≡ pattern_of x)
   pub refused : (number ≡ 0 → ⊥) → metres' ≡ metres
 
 -- ---- `zaqnuti_queries`: the number of the whole call; each place then has that of a query

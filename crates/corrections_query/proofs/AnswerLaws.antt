@@ -1,4 +1,6 @@
 -- The answer of a table that has passed its tests, joined to that of its directory. Assumes nothing.
+use Rattle.std.specs.Prelude.{Result, Err}
+use Rattle.numeric.specs.declared.refusal.Refusal.{Refusal}
 use mathlib.Core.Path.{◌≡◌, sym, ap, ◌∙◌, subst⁻¹}
 use mathlib.Core.List.{List, [], ◌∷◌}
 use mathlib.Core.Bool.{Bool, true, false, not, ◌||◌}
@@ -21,8 +23,6 @@ use Rattle.corrections_directory.proofs.ColumnLaws.{entries-length}
 use Rattle.corrections_directory.proofs.DirectoryLaws.{sound-flat, sound-parts, tiles-rest}
 use Rattle.corrections_query.specs.Query.{GivesFinite, PassedQuery, answer_at, answer_in, guarded, query_in}
 use Rattle.corrections_query.specs.Steps.{Answerable, BlockAnswer, Falling, LastUpTo, SignalsSplit, answer_for, directory_for, is_before, samples_of}
-use Rattle.corrections_query.specs.declared.query.Correction.{Correction}
-use Rattle.corrections_query.specs.declared.query.Correction.TheVariants.{Refused}
 use Rattle.corrections_query.proofs.BlockLaws.{answer-none, answer-some}
 use Rattle.corrections_query.proofs.FiniteLaws.{answer-finite}
 use Rattle.corrections_query.proofs.PlaceLaws.{block-found, block-other, block-whole, falling-signals, falling-times, filled, held-flat, inside, is, no_block}
@@ -82,7 +82,7 @@ module _ (m : ℕ) (l : Blocks) (ok : Answerable m l) where
     block_falls held t ft = falling-times m (samples_of (take m (entries_in l))) l ok.few-entries ok.few-samples ok.sound i h held t ft
 
   module _ (gap : Float) (g : ℕ) (t : Float) {x y : Bool} (ex : x ≡ in_range t) (ey : y ≡ finite t) where
-    pub late : not (x || not y) ≡ true → Refused RecordOutOfRange ≡ answer_for m l gap g t
+    pub late : not (x || not y) ≡ true → Err RecordOutOfRange ≡ answer_for m l gap g t
     unfolding answer_for ruled
     late z = rw (← ex, ← ey, z)
 
@@ -91,20 +91,20 @@ module _ (m : ℕ) (l : Blocks) (ok : Answerable m l) where
       unfolding answer_for ruled
       timed = rw (← ex, ← ey, z)
 
-      pub none-for : m ≡ 0 → Refused NoCorrection ≡ answer_for m l gap g t
+      pub none-for : m ≡ 0 → Err NoCorrection ≡ answer_for m l gap g t
       none-for e =
           answer-none (directory_for m l) ok.sound gap g t
           (no_block m (samples_of (take m (entries_in l))) l ok.few-entries ok.few-samples ok.sound g (λ j h q. let z : ⊥ = omega (arith, h, e) in z))
           ∙ timed
 
       module _ (e : ℕ) (last : LastUpTo l.constellations l.svids l.bands g 0 m e) where
-        pub other-for : (signal_at l.constellations l.svids l.bands e ≡ g → ⊥) → Refused NoCorrection ≡ answer_for m l gap g t
+        pub other-for : (signal_at l.constellations l.svids l.bands e ≡ g → ⊥) → Err NoCorrection ≡ answer_for m l gap g t
         other-for ne =
             answer-none (directory_for m l) ok.sound gap g t
             (block-other m (samples_of (take m (entries_in l))) l ok.few-entries ok.few-samples ok.sound g e last.below last.split ne)
             ∙ timed
 
-        pub found-for : signal_at l.constellations l.svids l.bands e ≡ g → (r : Correction) → BlockAnswer (readings_in l) (get_or l.firsts e 0) (get_or l.counts e 0) gap t r
+        pub found-for : signal_at l.constellations l.svids l.bands e ≡ g → (r : Result Float Refusal) → BlockAnswer (readings_in l) (get_or l.firsts e 0) (get_or l.counts e 0) gap t r
             → ((j : ℕ) → T (fits binary64 (get_or l.times j nan))) → T (fits binary64 t) → (r ≡ answer_for m l gap g t) × GivesFinite r
         found-for q r b held ft =
             let k = samples_of (take m (entries_in l)) in

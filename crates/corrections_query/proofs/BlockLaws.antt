@@ -1,4 +1,5 @@
 -- The answer of one satellite's block, by how many of its samples are before the time. Assumes nothing.
+use Rattle.std.specs.Prelude.{Ok, Err}
 use mathlib.Core.Path.{◌≡◌, refl, sym, ap, ◌∙◌}
 use mathlib.Core.List.{List, []}
 use mathlib.Core.Bool.{Bool, true, false, cond, not, ◌&&◌}
@@ -20,7 +21,6 @@ use Rattle.corrections_directory.proofs.DirectoryLaws.{sound-parts}
 use Rattle.corrections_directory.proofs.SeriesLaws.{block_series, block_of}
 use Rattle.corrections_query.specs.Query.{missing, the, near, first_of, last_of, sample_before, since, last_before, first_since, through, line, near_or, spanned, correction_rule, answer_in}
 use Rattle.corrections_query.specs.Steps.{Split, is_before}
-use Rattle.corrections_query.specs.declared.query.Correction.TheVariants.{Refused, Metres}
 use Rattle.corrections_query.proofs.FoundLaws.{first-at, first-none, last-at, last_none}
 use Rattle.corrections_query.proofs.PlaceLaws.{Lies}
 
@@ -44,18 +44,18 @@ module _ (t : Float) (l : List Sample) (r : ℕ) (s : Split (λ j. sample_before
 
 -- ---- the rule, by whether there is a sample b at or after the time (x), and a sample a before it (y)
 module _ (gap t : Float) (a b : Sample) where
-  way-since : (x y : Bool) → (x && near b.time t) ≡ true → Metres b.correction ≡ correction_rule gap t (cond y (the a) missing) (cond x (the b) missing)
+  way-since : (x y : Bool) → (x && near b.time t) ≡ true → Ok b.correction ≡ correction_rule gap t (cond y (the a) missing) (cond x (the b) missing)
   unfolding correction_rule near_or
   way-since true y e = rw e
   way-since false y e = never e
 
-  way-before : (x y : Bool) → (x && near b.time t) ≡ false → (y && near a.time t) ≡ true → Metres a.correction ≡ correction_rule gap t (cond y (the a) missing) (cond x (the b) missing)
+  way-before : (x y : Bool) → (x && near b.time t) ≡ false → (y && near a.time t) ≡ true → Ok a.correction ≡ correction_rule gap t (cond y (the a) missing) (cond x (the b) missing)
   unfolding correction_rule near_or
   way-before true true e f = rw (e, f)
   way-before false true e f = rw f
   way-before x false e f = never f
 
-  way-ends : (x y : Bool) → (x && near b.time t) ≡ false → (y && near a.time t) ≡ false → (x && y) ≡ false → Refused NoCorrection ≡ correction_rule gap t (cond y (the a) missing) (cond x (the b) missing)
+  way-ends : (x y : Bool) → (x && near b.time t) ≡ false → (y && near a.time t) ≡ false → (x && y) ≡ false → Err NoCorrection ≡ correction_rule gap t (cond y (the a) missing) (cond x (the b) missing)
   unfolding correction_rule near_or spanned
   way-ends true true e f g = never (sym g)
   way-ends true false e f g = rw e
@@ -63,14 +63,14 @@ module _ (gap t : Float) (a b : Sample) where
   way-ends false false e f g = refl
 
   way-gap : (x y : Bool) → (x && near b.time t) ≡ false → (y && near a.time t) ≡ false → (x && y) ≡ true → lt gap (b.time ⊖ a.time) ≡ true
-      → Refused NoCorrection ≡ correction_rule gap t (cond y (the a) missing) (cond x (the b) missing)
+      → Err NoCorrection ≡ correction_rule gap t (cond y (the a) missing) (cond x (the b) missing)
   unfolding correction_rule near_or spanned
   way-gap true true e f g h = rw (e, f, h)
   way-gap true false e f g h = never g
   way-gap false y e f g h = never g
 
   way-line : (x y : Bool) → (x && near b.time t) ≡ false → (y && near a.time t) ≡ false → (x && y) ≡ true → lt gap (b.time ⊖ a.time) ≡ false
-      → Metres (line t a b) ≡ correction_rule gap t (cond y (the a) missing) (cond x (the b) missing)
+      → Ok (line t a b) ≡ correction_rule gap t (cond y (the a) missing) (cond x (the b) missing)
   unfolding correction_rule near_or spanned
   way-line true true e f g h = rw (e, f, h)
   way-line true false e f g h = never g
@@ -139,27 +139,27 @@ module _ (l : List Sample) (ts xs : List Float) (start count : ℕ) (h : Lies l 
   both-in = rw (in_block, past-start)
 
   module _ {y : Bool} (ey : y ≡ (ltb r (start + count) && near (get_or ts r nan) t)) where
-    pub answer-since : y ≡ true → Metres (get_or xs r nan) ≡ answer_in l gap t
+    pub answer-since : y ≡ true → Ok (get_or xs r nan) ≡ answer_in l gap t
     answer-since e =
         let w = and_both (ltb r (start + count)) (near (get_or ts r nan) t) (sym ey ∙ e) in
-        ap Metres (sym (here-value (ltb-true r (start + count) w.0)))
+        ap Ok (sym (here-value (ltb-true r (start + count) w.0)))
         ∙ way-since gap t (get_or l (r - start - 1) blank) (get_or l (r - start) blank) (ltb (r - start) (length l)) (ltb 0 (r - start)) (sym near-at ∙ sym ey ∙ e) ∙ sym answer_at
 
     module _ (ny : y ≡ false) {z : Bool} (ez : z ≡ (ltb start r && near (get_or ts (r - 1) nan) t)) where
       first : (ltb (r - start) (length l) && near (get_or l (r - start) blank).time t) ≡ false
       first = sym near-at ∙ sym ey ∙ ny
 
-      pub answer-before : z ≡ true → Metres (get_or xs (r - 1) nan) ≡ answer_in l gap t
+      pub answer-before : z ≡ true → Ok (get_or xs (r - 1) nan) ≡ answer_in l gap t
       answer-before e =
           let w = and_both (ltb start r) (near (get_or ts (r - 1) nan) t) (sym ez ∙ e) in
-          ap Metres (sym (ahead-value (ltb-true start r w.0)))
+          ap Ok (sym (ahead-value (ltb-true start r w.0)))
           ∙ way-before gap t (get_or l (r - start - 1) blank) (get_or l (r - start) blank) (ltb (r - start) (length l)) (ltb 0 (r - start)) first (sym near-ahead ∙ sym ez ∙ e) ∙ sym answer_at
 
       module _ (nz : z ≡ false) where
         second : (ltb 0 (r - start) && near (get_or l (r - start - 1) blank).time t) ≡ false
         second = sym near-ahead ∙ sym ez ∙ nz
 
-        pub answer-ends : (ltb r (start + count) && ltb start r) ≡ false → Refused NoCorrection ≡ answer_in l gap t
+        pub answer-ends : (ltb r (start + count) && ltb start r) ≡ false → Err NoCorrection ≡ answer_in l gap t
         answer-ends e =
             way-ends gap t (get_or l (r - start - 1) blank) (get_or l (r - start) blank) (ltb (r - start) (length l)) (ltb 0 (r - start)) first second (sym both-in ∙ e) ∙ sym answer_at
 
@@ -170,13 +170,13 @@ module _ (l : List Sample) (ts xs : List Float) (start count : ℕ) (h : Lies l 
           a_in : start < r
           a_in = ltb-true start r (and_both (ltb r (start + count)) (ltb start r) both).1
 
-          pub answer-gap : lt gap (get_or ts r nan ⊖ get_or ts (r - 1) nan) ≡ true → Refused NoCorrection ≡ answer_in l gap t
+          pub answer-gap : lt gap (get_or ts r nan ⊖ get_or ts (r - 1) nan) ≡ true → Err NoCorrection ≡ answer_in l gap t
           answer-gap e =
               way-gap gap t (get_or l (r - start - 1) blank) (get_or l (r - start) blank) (ltb (r - start) (length l)) (ltb 0 (r - start)) first second (sym both-in ∙ both)
               (rw (here-time b-in, ahead-time a_in) e)
               ∙ sym answer_at
 
-          pub answer-line : lt gap (get_or ts r nan ⊖ get_or ts (r - 1) nan) ≡ false → Metres (through t (get_or ts (r - 1) nan) (get_or xs (r - 1) nan) (get_or ts r nan) (get_or xs r nan)) ≡ answer_in l gap t
+          pub answer-line : lt gap (get_or ts r nan ⊖ get_or ts (r - 1) nan) ≡ false → Ok (through t (get_or ts (r - 1) nan) (get_or xs (r - 1) nan) (get_or ts r nan) (get_or xs r nan)) ≡ answer_in l gap t
           answer-line e =
               rw (← (ahead-time a_in), ← (ahead-value a_in), ← (here-time b-in), ← (here-value b-in))
               (way-line gap t (get_or l (r - start - 1) blank) (get_or l (r - start) blank) (ltb (r - start) (length l)) (ltb 0 (r - start)) first second (sym both-in ∙ both)
@@ -189,11 +189,11 @@ module _ (d : Directory) (s : sound_directory d ≡ true) (gap : Float) (g : ℕ
   block-answer = ap (λ (l : List Sample). answer_in l gap t) (sym (block_series d g (sound-parts d s).ascending))
 
   -- no block, no correction
-  none-answer : Refused NoCorrection ≡ answer_in [] gap t
+  none-answer : Err NoCorrection ≡ answer_in [] gap t
   unfolding answer_in correction_rule near_or spanned first_of last_of
   none-answer = refl
 
-  pub answer-none : block_of d g ≡ [] → Refused NoCorrection ≡ answer_in (series_of g (flat d)) gap t
+  pub answer-none : block_of d g ≡ [] → Err NoCorrection ≡ answer_in (series_of g (flat d)) gap t
   answer-none e = none-answer ∙ ap (λ (l : List Sample). answer_in l gap t) (sym e) ∙ block-answer
 
   pub answer-some : (l : List Sample) → block_of d g ≡ l → answer_in l gap t ≡ answer_in (series_of g (flat d)) gap t

@@ -1,4 +1,6 @@
 -- Every correction that a sound table gives is finite. Assumes nothing.
+use Rattle.std.specs.Prelude.{Result, Ok, Err}
+use Rattle.numeric.specs.declared.refusal.Refusal.{Refusal}
 use mathlib.Core.Path.{◌≡◌, refl, sym, ap, ◌∙◌}
 use mathlib.Core.List.{List, [], ◌∷◌}
 use mathlib.Core.Bool.{Bool, true, false, cond, not, ◌&&◌, beq, true≢false}
@@ -21,8 +23,6 @@ use Rattle.numeric.specs.declared.refusal.Refusal.TheVariants.{NoCorrection}
 use Rattle.corrections_table.specs.Table.{blank, series_of, signal_of, sound_table}
 use Rattle.corrections_query.specs.Query.{GivesFinite, Found, answer_in, first_of, last_of, line, missing, near, near_or, correction_rule, spanned, the, through}
 use Rattle.corrections_table.specs.declared.sample.Sample.{Sample}
-use Rattle.corrections_query.specs.declared.query.Correction.{Correction}
-use Rattle.corrections_query.specs.declared.query.Correction.TheVariants.{Refused, Metres}
 use Rattle.numeric.proofs.RealLaws.{in-range-finite}
 use Rattle.corrections_table.proofs.UnitLaws.{units, lt-is, units-exact, down_le, cross, never}
 use Rattle.corrections_table.proofs.SmallLaws.{Small, small-finite, Up, round_up, at_most, add_small, sub_small, mul_small, div-small, range_small}
@@ -211,12 +211,12 @@ last-all q f (a ∷ l) h g = last-all q (cond (q a) (the a) f) l (go (q a) refl)
     go true e = (g 0 (omega arith), e)
     go false e = h
 
-near-finite : (q : Sample → Bool) (t : Float) (f : Found) (rest : Correction) → All (Passing q) f → GivesFinite rest → GivesFinite (near_or t f rest)
+near-finite : (q : Sample → Bool) (t : Float) (f : Found) (rest : Result Float Refusal) → All (Passing q) f → GivesFinite rest → GivesFinite (near_or t f rest)
 unfolding near_or
 near-finite q t missing rest i r = r
 near-finite q t (the a) rest i r = go (near a.time t)
   where
-    go : (x : Bool) → GivesFinite (cond x (Metres a.correction) rest)
+    go : (x : Bool) → GivesFinite (cond x (Ok a.correction) rest)
     go true = in-range-finite a.correction i.0.value
     go false = r
 
@@ -226,7 +226,7 @@ spanned-finite g gap t missing b f i j = tt
 spanned-finite g gap t (the a) missing f i j = tt
 spanned-finite g gap t (the a) (the b) f i j = go (lt gap (b.time ⊖ a.time))
   where
-    go : (y : Bool) → GivesFinite (cond y (Refused NoCorrection) (Metres (line t a b)))
+    go : (y : Bool) → GivesFinite (cond y (Err NoCorrection) (Ok (line t a b)))
     go true = tt
     go false = line-finite t a b f i.0 j.0 (and_right (eqb (signal_of a) g) _ i.1) (not-true _ (and_right (eqb (signal_of b) g) _ j.1))
 

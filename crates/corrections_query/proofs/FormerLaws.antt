@@ -1,4 +1,6 @@
 -- The rule of before request (vi), by the last sample before the time and the first one at or after it. Assumes nothing.
+use Rattle.std.specs.Prelude.{Result, Ok, Err}
+use Rattle.numeric.specs.declared.refusal.Refusal.{Refusal}
 use mathlib.Core.Path.{◌≡◌, refl, sym, ◌∙◌}
 use mathlib.Core.List.{List, [], ◌∷◌, ◌++◌}
 use mathlib.Core.Bool.{Bool, true, false, cond, not, ◌&&◌, ◌||◌}
@@ -20,8 +22,6 @@ use Rattle.corrections_table.proofs.UnitLaws.{earlier-of, never}
 use Rattle.corrections_query.specs.Query.{Found, missing, the, near, line, through, first_of, last_of, sample_before, last_before, first_since, near_or, spanned, correction_rule}
 use Rattle.corrections_query.specs.Past.{former_rule, former_answer}
 use Rattle.corrections_query.specs.Former.{partition_point, former_at}
-use Rattle.corrections_query.specs.declared.query.Correction.{Correction}
-use Rattle.corrections_query.specs.declared.query.Correction.TheVariants.{Refused, Metres}
 use Rattle.corrections_query.proofs.FoundLaws.{earlier, last_none, last_series}
 use Rattle.corrections_query.proofs.QueryLaws.{TimesHeld}
 
@@ -115,14 +115,14 @@ module _ (t : Float) where
 -- ---- the rule by the neighbours
 module _ (gap t : Float) where
   -- what the last sample before t, if there is one, and the first one at or after it, b, gave, b not being near
-  unfoldable pub bridged : Found → Sample → Correction
-  bridged missing b = Refused NoCorrection
-  bridged (the a) b = cond (near a.time t) (Metres a.correction) (cond (lt gap (b.time ⊖ a.time)) (Refused NoCorrection) (Metres (line t a b)))
+  unfoldable pub bridged : Found → Sample → Result Float Refusal
+  bridged missing b = Err NoCorrection
+  bridged (the a) b = cond (near a.time t) (Ok a.correction) (cond (lt gap (b.time ⊖ a.time)) (Err NoCorrection) (Ok (line t a b)))
 
   -- what they gave, where there may be none at or after t
-  unfoldable pub between : Found → Found → Correction
-  between f missing = Refused NoCorrection
-  between f (the b) = cond (near b.time t) (Metres b.correction) (bridged f b)
+  unfoldable pub between : Found → Found → Result Float Refusal
+  between f missing = Err NoCorrection
+  between f (the b) = cond (near b.time t) (Ok b.correction) (bridged f b)
 
   pub former-between : (g : ℕ) (ss : List Sample) → T (fits binary64 t) → SoundTable ss → TimesHeld ss
       → former_at (series_of g ss) gap t ≡ between (last_before t (series_of g ss)) (first_since t (series_of g ss))
@@ -150,10 +150,10 @@ module _ (gap t : Float) where
           by false e = let k = ltb-false i n e in eq-eqb i n (omega arith)
 
       go : (x y z : Bool) → z ≡ not y
-          → cond (y && near (get_or l i blank).time t) (Metres (get_or l i blank).correction)
-          (cond (x || z) (Refused NoCorrection)
-          (cond (near (get_or l (i - 1) blank).time t) (Metres (get_or l (i - 1) blank).correction)
-          (cond (lt gap ((get_or l i blank).time ⊖ (get_or l (i - 1) blank).time)) (Refused NoCorrection) (Metres (line t (get_or l (i - 1) blank) (get_or l i blank))))))
+          → cond (y && near (get_or l i blank).time t) (Ok (get_or l i blank).correction)
+          (cond (x || z) (Err NoCorrection)
+          (cond (near (get_or l (i - 1) blank).time t) (Ok (get_or l (i - 1) blank).correction)
+          (cond (lt gap ((get_or l i blank).time ⊖ (get_or l (i - 1) blank).time)) (Err NoCorrection) (Ok (line t (get_or l (i - 1) blank) (get_or l i blank))))))
           ≡ between (cond x missing (the (get_or l (i - 1) blank))) (cond y (the (get_or l i blank)) missing)
       go true true false k = refl
       go false true false k = refl

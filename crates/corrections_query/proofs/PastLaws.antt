@@ -1,4 +1,6 @@
 -- Just which answers request (vi) changed: those past a signal's last sample by less than 1e-6 s in the rounded difference. Assumes nothing.
+use Rattle.std.specs.Prelude.{Result, Ok, Err}
+use Rattle.numeric.specs.declared.refusal.Refusal.{Refusal}
 use mathlib.Core.Path.{◌≡◌, refl, sym, ap, ◌∙◌}
 use mathlib.Core.List.{List, [], ◌∷◌}
 use mathlib.Core.Bool.{Bool, true, false, cond, not, and-false, or-true, ◌&&◌, ◌||◌}
@@ -25,8 +27,6 @@ use Rattle.corrections_directory.specs.Directory.{Directory, flat, sound_directo
 use Rattle.corrections_directory.proofs.DirectoryLaws.{sound-flat}
 use Rattle.corrections_query.specs.Query.{Found, missing, the, near, first_of, last_of, last_before, first_since, near_or, spanned, correction_rule, answer_in, answer_at, guarded, query_in, PassedQuery, Passes}
 use Rattle.corrections_query.specs.Past.{former_rule, former_answer, query_before, is_of, JustPast}
-use Rattle.corrections_query.specs.declared.query.Correction.{Correction}
-use Rattle.corrections_query.specs.declared.query.Correction.TheVariants.{Refused, Metres}
 use Rattle.corrections_query.proofs.FoundLaws.{earlier, later, earlier_series, later_series, first-none, last_none}
 use Rattle.corrections_query.proofs.QueryLaws.{TimesHeld}
 
@@ -39,19 +39,19 @@ module _ (gap t : Float) where
   with-since (the a) b = refl
 
   -- where there is none, the old one refuses, and the new one gives the sample before where that is near
-  alone : (f : Found) → former_rule gap t f missing ≡ Refused NoCorrection
+  alone : (f : Found) → former_rule gap t f missing ≡ Err NoCorrection
   unfolding former_rule
   alone f = refl
 
-  close-by : (a : Sample) → near a.time t ≡ true → correction_rule gap t (the a) missing ≡ Metres a.correction
+  close-by : (a : Sample) → near a.time t ≡ true → correction_rule gap t (the a) missing ≡ Ok a.correction
   unfolding correction_rule near_or spanned
   close-by a e = rw e
 
-  far-off : (a : Sample) → near a.time t ≡ false → correction_rule gap t (the a) missing ≡ Refused NoCorrection
+  far-off : (a : Sample) → near a.time t ≡ false → correction_rule gap t (the a) missing ≡ Err NoCorrection
   unfolding correction_rule near_or spanned
   far-off a e = rw e
 
-  empty : correction_rule gap t missing missing ≡ Refused NoCorrection
+  empty : correction_rule gap t missing missing ≡ Err NoCorrection
   unfolding correction_rule near_or spanned
   empty = refl
 
@@ -194,7 +194,7 @@ module _ (ss : List Sample) (gap : Float) (c v b : ℕ) (t : Float) where
 
   -- there the old one is 12, and the new one that sample's value
   pub answer-changed : T (fits binary64 t) → sound_table ss ≡ true → TimesHeld ss → (a : Sample) → JustPast ss (signal c v b) t a
-      → (former_answer ss gap c v b t ≡ Refused NoCorrection) × (answer_at ss gap c v b t ≡ Metres a.correction)
+      → (former_answer ss gap c v b t ≡ Err NoCorrection) × (answer_at ss gap c v b t ≡ Ok a.correction)
   unfolding answer_at answer_in former_answer
   answer-changed ft s w a j =
       let p = last-passed ss (signal c v b) t a ft (sound-at ss s) w j in
@@ -203,18 +203,18 @@ module _ (ss : List Sample) (gap : Float) (c v b : ℕ) (t : Float) where
 -- ---- the call, for every directory, sound or not
 module _ (m n room : ℕ) (d : Directory) (gap : Float) (c v b : ℕ) (t : Float) where
   -- what is asked of a query that 2 to 4 let pass
-  passes-through : Passes m n room d gap t → (a : Correction) → guarded (ltb room m || ltb room n) (sound_directory d) gap t a ≡ a
+  passes-through : Passes m n room d gap t → (a : Result Float Refusal) → guarded (ltb room m || ltb room n) (sound_directory d) gap t a ≡ a
   unfolding guarded ruled
   passes-through p a = rw (le-ltb room m p.table.few-entries, le-ltb room n p.table.few-samples, p.table.in-range, p.table.sound, p.time)
 
   -- of one that they turn away nothing is asked
-  turned-away : (Passes m n room d gap t → ⊥) → (x y : Correction) → guarded (ltb room m || ltb room n) (sound_directory d) gap t x ≡ guarded (ltb room m || ltb room n) (sound_directory d) gap t y
+  turned-away : (Passes m n room d gap t → ⊥) → (x y : Result Float Refusal) → guarded (ltb room m || ltb room n) (sound_directory d) gap t x ≡ guarded (ltb room m || ltb room n) (sound_directory d) gap t y
   unfolding guarded ruled
   turned-away nay x y = go (ltb room m || ltb room n) (in_range gap) (sound_directory d) (in_range t || not (finite t)) refl refl refl refl
     where
       go : (e f g h : Bool) → (ltb room m || ltb room n) ≡ e → in_range gap ≡ f → sound_directory d ≡ g → (in_range t || not (finite t)) ≡ h
-          → cond e (Refused TooMany) (cond (not f) (Refused SettingOutOfRange) (cond (not (g && h)) (Refused RecordOutOfRange) x))
-          ≡ cond e (Refused TooMany) (cond (not f) (Refused SettingOutOfRange) (cond (not (g && h)) (Refused RecordOutOfRange) y))
+          → cond e (Err TooMany) (cond (not f) (Err SettingOutOfRange) (cond (not (g && h)) (Err RecordOutOfRange) x))
+          ≡ cond e (Err TooMany) (cond (not f) (Err SettingOutOfRange) (cond (not (g && h)) (Err RecordOutOfRange) y))
       go true f g h p q r s = refl
       go false false g h p q r s = refl
       go false true false h p q r s = refl
@@ -245,7 +245,7 @@ module _ (m n room : ℕ) (d : Directory) (gap : Float) (c v b : ℕ) (t : Float
 
   -- where it is and 2 to 4 pass, 12 became that sample's value
   pub query_changed : Passes m n room d gap t → T (fits binary64 t) → TimesHeld (flat d) → (a : Sample) → JustPast (flat d) (signal c v b) t a
-      → (query_before m n room d gap c v b t ≡ Refused NoCorrection) × (query_in m n room d gap c v b t ≡ Metres a.correction)
+      → (query_before m n room d gap c v b t ≡ Err NoCorrection) × (query_in m n room d gap c v b t ≡ Ok a.correction)
   unfolding query_in query_before
   query_changed p ft w a j =
       let k = answer-changed (flat d) gap c v b t ft (sound-flat d p.table.sound) w a j in
@@ -273,11 +273,11 @@ ends-decide gap t missing (the b) n = rw (near-never b.time t n)
 ends-decide gap t (the a) missing n = rw (near-never a.time t n)
 ends-decide gap t (the a) (the b) n = rw (near-never b.time t n, near-never a.time t n)
 
-no-first : (gap t : Float) (f h : Found) → f ≡ missing → spanned gap t f h ≡ Refused NoCorrection
+no-first : (gap t : Float) (f h : Found) → f ≡ missing → spanned gap t f h ≡ Err NoCorrection
 unfolding spanned
 no-first gap t f h e = rw e
 
-no_last : (gap t : Float) (f h : Found) → h ≡ missing → spanned gap t f h ≡ Refused NoCorrection
+no_last : (gap t : Float) (f h : Found) → h ≡ missing → spanned gap t f h ≡ Err NoCorrection
 unfolding spanned
 no_last gap t missing h e = refl
 no_last gap t (the a) h e = rw e
@@ -303,7 +303,7 @@ before_above (inf s) h = never h
 before_above (fin s m e) h = refl
 
 -- of a sound table none is found on one of the two sides
-pub answer-timeless : (ss : List Sample) (gap : Float) (c v b : ℕ) (t : Float) → sound_table ss ≡ true → finite t ≡ false → answer_at ss gap c v b t ≡ Refused NoCorrection
+pub answer-timeless : (ss : List Sample) (gap : Float) (c v b : ℕ) (t : Float) → sound_table ss ≡ true → finite t ≡ false → answer_at ss gap c v b t ≡ Err NoCorrection
 unfolding answer_at answer_in
 answer-timeless ss gap c v b t s n =
     let g = signal c v b in
@@ -312,7 +312,7 @@ answer-timeless ss gap c v b t s n =
     none_before : (u : Float) → ((x : Float) → lt x u ≡ false) → last_of (earlier (signal c v b) u) missing ss ≡ missing
     none_before u k = last_none (earlier (signal c v b) u) missing ss (λ j h. rw (k (get_or ss j blank).time) (and-false (is_of (signal c v b) (get_or ss j blank))))
 
-    side : (u : Float) → finite u ≡ false → spanned gap u (last_of (earlier (signal c v b) u) missing ss) (first_of (later (signal c v b) u) ss) ≡ Refused NoCorrection
+    side : (u : Float) → finite u ≡ false → spanned gap u (last_of (earlier (signal c v b) u) missing ss) (first_of (later (signal c v b) u) ss) ≡ Err NoCorrection
     side (fin r m e) k = never (sym k)
     side nan k = no-first gap nan _ (first_of (later (signal c v b) nan) ss) (none_before nan before-nan)
     side (inf true) k = no-first gap (inf true) _ (first_of (later (signal c v b) (inf true)) ss) (none_before (inf true) before-all)
@@ -322,6 +322,6 @@ answer-timeless ss gap c v b t s n =
         (λ j h. rw (before_above (get_or ss j blank).time (in-range-finite (get_or ss j blank).time ((sound-at ss s).times j h))) (and-false (is_of (signal c v b) (get_or ss j blank)))))
 
 -- the call: 12 once 2 to 4 pass
-pub query_timeless : (m n room : ℕ) (d : Directory) (gap : Float) (c v b : ℕ) (t : Float) → PassedQuery m n room d gap → finite t ≡ false → query_in m n room d gap c v b t ≡ Refused NoCorrection
+pub query_timeless : (m n room : ℕ) (d : Directory) (gap : Float) (c v b : ℕ) (t : Float) → PassedQuery m n room d gap → finite t ≡ false → query_in m n room d gap c v b t ≡ Err NoCorrection
 query_timeless m n room d gap c v b t p e =
     query_passed m n room d gap c v b t (record { table = p; time = rw e (or-true (in_range t)) }) ∙ answer-timeless (flat d) gap c v b t (sound-flat d p.sound) e

@@ -1,21 +1,20 @@
 -- The correction of a signal at a time (docs/SCOPE.md, "Corrections"; `Corrections::at` of differential.rs). Definitions only.
+use Rattle.numeric.specs.Refusal.{answer_number}
+use Rattle.std.specs.Prelude.{Result, Ok, Err, ⊤}
+use Rattle.numeric.specs.declared.refusal.Refusal.{Refusal}
 use Rattle.std.specs.Prelude.{ℕ, ◌≤◌, ◌≡◌, Bool, true, cond, not, ◌&&◌, ◌||◌, List, [], ◌∷◌, ltb, Float}
 use Rattle.std.specs.Float.Ieee.{lt}
 use Rattle.std.specs.Float.Ieee.Scale.{finite}
 use Rattle.exact.specs.Float.{◌⊕◌, ◌⊖◌, ◌⊗◌, ◌⊘◌, bits}
 use Rattle.numeric.specs.Order.{pattern_of}
 use Rattle.numeric.specs.Real.{abs, in_range}
-use Rattle.numeric.specs.Refusal.{number_of}
 use Rattle.numeric.specs.Rules.{rule, ruled}
 use Rattle.numeric.specs.declared.refusal.Refusal.TheVariants.{TooMany, SettingOutOfRange, RecordOutOfRange, NoCorrection}
 use Rattle.signal.specs.Signal.{signal}
 use Rattle.corrections_table.specs.Table.{series_of, sound_table}
-use Rattle.corrections_table.specs.declared.add.Test.{Test}
 use Rattle.corrections_table.specs.declared.sample.Sample.{Sample}
 use Rattle.corrections_directory.specs.Directory.{Directory, block_capacity, directory_in, flat, sound_directory}
 use Rattle.corrections_directory.specs.Read.{ReadTable}
-use Rattle.corrections_query.specs.declared.query.Correction.{Correction}
-use Rattle.corrections_query.specs.declared.query.Correction.TheVariants.{Refused, Metres}
 
 -- 1e-6
 abbrev pub near_limit : Float
@@ -64,32 +63,32 @@ abbrev pub line : Float → Sample → Sample → Float
 line t a b = through t a.time a.correction b.time b.correction
 
 -- a found sample's value where it is less than 1e-6 s away, and otherwise what the rest of the rule gives
-unfoldable pub near_or : Float → Found → Correction → Correction
+unfoldable pub near_or : Float → Found → Result Float Refusal → Result Float Refusal
 near_or t missing rest = rest
-near_or t (the s) rest = cond (near s.time t) (Metres s.correction) rest
+near_or t (the s) rest = cond (near s.time t) (Ok s.correction) rest
 
 -- the ends, and then the gap: what the last sample before t and the first one at or after it give, neither being near
-unfoldable pub spanned : Float → Float → Found → Found → Correction
-spanned gap t missing h = Refused NoCorrection
-spanned gap t (the a) missing = Refused NoCorrection
-spanned gap t (the a) (the b) = cond (lt gap (b.time ⊖ a.time)) (Refused NoCorrection) (Metres (line t a b))
+unfoldable pub spanned : Float → Float → Found → Found → Result Float Refusal
+spanned gap t missing h = Err NoCorrection
+spanned gap t (the a) missing = Err NoCorrection
+spanned gap t (the a) (the b) = cond (lt gap (b.time ⊖ a.time)) (Err NoCorrection) (Ok (line t a b))
 
 -- request (vi): what the last sample f before t and the first one h at or after it give, a near h first, then a near f, then the ends, then the gap
-unfoldable pub correction_rule : Float → Float → Found → Found → Correction
+unfoldable pub correction_rule : Float → Float → Found → Found → Result Float Refusal
 correction_rule gap t f h = near_or t h (near_or t f (spanned gap t f h))
 
 -- the correction at the time t from one satellite's series, by the last sample before t and the first one at or after it
-unfoldable pub answer_in : List Sample → Float → Float → Correction
+unfoldable pub answer_in : List Sample → Float → Float → Result Float Refusal
 answer_in l gap t = correction_rule gap t (last_before t l) (first_since t l)
 
 -- the correction of the signal c, v, b at the time t: that of its series
-unfoldable pub answer_at : List Sample → Float → ℕ → ℕ → ℕ → Float → Correction
+unfoldable pub answer_at : List Sample → Float → ℕ → ℕ → ℕ → Float → Result Float Refusal
 answer_at ss gap c v b t = answer_in (series_of (signal c v b) ss) gap t
 
 -- the answer once numbers 2, 3 and 4 pass, by whether the counts are above the capacity and whether the table is sound; a time that is not finite passes 4
-unfoldable pub guarded : Bool → Bool → Float → Float → Correction → Correction
+unfoldable pub guarded : Bool → Bool → Float → Float → Result Float Refusal → Result Float Refusal
 guarded many sound gap t answer =
-    ruled Refused
+    ruled Err
     (rule TooMany many
     ∷ rule SettingOutOfRange (not (in_range gap))
     ∷ rule RecordOutOfRange (not (sound && (in_range t || not (finite t))))
@@ -97,50 +96,45 @@ guarded many sound gap t answer =
     answer
 
 -- a query of n samples with that capacity
-unfoldable pub query_of : ℕ → ℕ → List Sample → Float → ℕ → ℕ → ℕ → Float → Correction
+unfoldable pub query_of : ℕ → ℕ → List Sample → Float → ℕ → ℕ → ℕ → Float → Result Float Refusal
 query_of n room ss gap c v b t = guarded (ltb room n) (sound_table ss) gap t (answer_at ss gap c v b t)
 
 -- request (ix): a query of a directory of m entries and n samples in columns with that capacity has its own 2 and 4, and the answer of the samples that the directory stands for
-unfoldable pub query_in : ℕ → ℕ → ℕ → Directory → Float → ℕ → ℕ → ℕ → Float → Correction
+unfoldable pub query_in : ℕ → ℕ → ℕ → Directory → Float → ℕ → ℕ → ℕ → Float → Result Float Refusal
 query_in m n room d gap c v b t = guarded (ltb room m || ltb room n) (sound_directory d) gap t (answer_at (flat d) gap c v b t)
 
 -- a query of a table in lent columns
-abbrev pub lent_query : ReadTable → Float → ℕ → ℕ → ℕ → Float → Correction
+abbrev pub lent_query : ReadTable → Float → ℕ → ℕ → ℕ → Float → Result Float Refusal
 lent_query table gap c v b t =
     query_in table.entries table.samples (block_capacity table.columns) (directory_in table.entries table.samples table.columns) gap c v b t
 
 -- numbers 2 to 4 of a table of m entries and n samples and of a gap
-unfoldable pub table_test : ℕ → ℕ → ℕ → Directory → Float → Test
+unfoldable pub table_test : ℕ → ℕ → ℕ → Directory → Float → Result ⊤ Refusal
 table_test m n room d gap =
-    ruled Test.Refused
+    ruled Err
     (rule TooMany (ltb room m || ltb room n)
     ∷ rule SettingOutOfRange (not (in_range gap))
     ∷ rule RecordOutOfRange (not (sound_directory d))
     ∷ [])
-    Test.Passed
+    (Ok tt)
 
 -- numbers 2 to 4 of a table in lent columns and of a gap
-abbrev pub lent_test : ReadTable → Float → Test
+abbrev pub lent_test : ReadTable → Float → Result ⊤ Refusal
 lent_test table gap = table_test table.entries table.samples (block_capacity table.columns) (directory_in table.entries table.samples table.columns) gap
 
--- 0, or the number of the refusal
-abbrev pub query_number : Correction → ℕ
-query_number (Refused r) = number_of r
-query_number (Metres x) = 0
-
 -- the pattern of a lent float afterwards, to the last bit: that of the correction, unchanged where the query is refused
-abbrev pub pattern_after : Correction → ℕ → ℕ
-pattern_after (Refused r) old = old
-pattern_after (Metres x) old = pattern_of x
+abbrev pub pattern_after : Result Float Refusal → ℕ → ℕ
+pattern_after (Err r) old = old
+pattern_after (Ok x) old = pattern_of x
 
 -- every correction given is finite
-abbrev pub GivesFinite : Correction → Type 0
-GivesFinite (Refused n) = Unit {0}
-GivesFinite (Metres x) = finite x ≡ true
+abbrev pub GivesFinite : Result Float Refusal → Type 0
+GivesFinite (Err n) = Unit {0}
+GivesFinite (Ok x) = finite x ≡ true
 
 -- the number and the lent pattern afterwards are those of the answer, and the correction given is finite
-pub record Answers (q : Correction) (number metres metres' : ℕ) : Type 0 where
-  pub number_is : number ≡ query_number q
+pub record Answers (q : Result Float Refusal) (number metres metres' : ℕ) : Type 0 where
+  pub number_is : number ≡ answer_number q
   pub metres_are : metres' ≡ pattern_after q metres
   pub given-finite : GivesFinite q
 

@@ -1,6 +1,10 @@
 -- What the contracts of inner functions say: no promise of a call for users reaches these. Definitions only.
+use Rattle.std.specs.Prelude.{Result, Err}
+use Rattle.numeric.specs.declared.refusal.Refusal.{Refusal}
 use Rattle.std.specs.Prelude.{ℕ, ◌+◌, ◌-◌, ◌≤◌, ◌<◌, ◌≡◌, Bool, true, false, not, ◌||◌, List, [], ◌∷◌, length, get_or, take, leb, Float}
 use Rattle.std.specs.Float.{nan}
+use lib.Dec.{T}
+use lib.Ieee.{binary64, fits}
 use Rattle.std.specs.Float.Ieee.{lt}
 use Rattle.std.specs.Float.Ieee.Scale.{finite}
 use Rattle.numeric.specs.Real.{in_range}
@@ -10,8 +14,6 @@ use Rattle.corrections_table.specs.Table.{series_of}
 use Rattle.corrections_directory.specs.Directory.{Entry, Reading, Blocks, Directory, block, directory_in, entries_in, flat, readings_in, sound_directory}
 use Rattle.corrections_directory.specs.Steps.{InSignals, signal_at}
 use Rattle.corrections_query.specs.Query.{answer_in, GivesFinite}
-use Rattle.corrections_query.specs.declared.query.Correction.{Correction}
-use Rattle.corrections_query.specs.declared.query.Correction.TheVariants.{Refused}
 
 -- ---- the search by halving
 
@@ -59,8 +61,13 @@ pub record TimesSplit (times : List Float) (t : Float) (from to : ℕ) : Type 0 
 -- ---- one block
 
 -- r is the answer of the count readings from the place first on, whichever satellite's they are
-pub record BlockAnswer (readings : List Reading) (first count : ℕ) (gap t : Float) (r : Correction) : Type 0 where
+pub record BlockAnswer (readings : List Reading) (first count : ℕ) (gap t : Float) (r : Result Float Refusal) : Type 0 where
   pub is : (e : Entry) → e.start ≡ first → e.count ≡ count → r ≡ answer_in (block readings e) gap t
+
+-- the times of a column, and one time, are of the code's format
+pub record OfFormat (ts : List Float) (t : Float) : Type 0 where
+  pub column : (j : ℕ) → T (fits binary64 (get_or ts j nan))
+  pub time : T (fits binary64 t)
 
 -- ---- a table that has passed its tests
 
@@ -80,9 +87,9 @@ pub record Answerable (m : ℕ) (l : Blocks) : Type 0 where
   pub sound : sound_directory (directory_for m l) ≡ true
 
 -- the answer of the signal g at the time t, which number 4 tests too
-unfoldable pub answer_for : ℕ → Blocks → Float → ℕ → Float → Correction
-answer_for m l gap g t = ruled Refused (rule RecordOutOfRange (not (in_range t || not (finite t))) ∷ []) (answer_in (series_of g (flat (directory_for m l))) gap t)
+unfoldable pub answer_for : ℕ → Blocks → Float → ℕ → Float → Result Float Refusal
+answer_for m l gap g t = ruled Err (rule RecordOutOfRange (not (in_range t || not (finite t))) ∷ []) (answer_in (series_of g (flat (directory_for m l))) gap t)
 
 -- r is that answer, and finite where it is a correction
-abbrev pub AnswersFor : ℕ → Blocks → Float → ℕ → Float → Correction → Type 0
+abbrev pub AnswersFor : ℕ → Blocks → Float → ℕ → Float → Result Float Refusal → Type 0
 AnswersFor m l gap g t r = (r ≡ answer_for m l gap g t) × GivesFinite r

@@ -38,14 +38,12 @@ fn entry_within(
 {
     let mut lo = from;
     let mut len = size;
-    let mut left: usize = 5;
-    while 0 < left {
+    for _left in (0..5u32).rev() {
         let half = len / 2;
         let mid = lo + half;
         let s = signal_at(block_constellation, block_svid, block_band, mid);
         lo = choose_up_to(s, signal, mid, lo);
         len -= half;
-        left -= 1;
     }
     lo
 }
@@ -81,14 +79,12 @@ fn front_within(table_time: &[f64], time: f64, from: usize, size: usize) -> usiz
 {
     let mut lo = from;
     let mut len = size;
-    let mut left: usize = 6;
-    while 0 < left {
+    for _left in (0..6u32).rev() {
         let half = len / 2;
         let mid = lo + half;
         let x = table_time[mid];
         lo = choose_before(x, time, mid, lo);
         len -= half;
-        left -= 1;
     }
     let x = table_time[lo];
     choose_before(x, time, lo + 1, lo)

@@ -2,7 +2,7 @@
 use mathlib.Core.Path.{◌≡◌, refl, sym, ap, ◌∙◌}
 use mathlib.Core.List.{List, [], ◌∷◌}
 use mathlib.Core.Bool.{Bool, true, false}
-use Prim.Native.Nat.{ℕ, zero, suc, ◌-◌, ◌≤◌, ◌<◌}
+use Prim.Native.Nat.{ℕ, zero, suc, ◌+◌, ◌-◌, ◌≤◌, ◌<◌}
 use native.Mathlib.Nat.{not-suc-le-zero, le_of_suc-le-suc}
 use native.Mathlib.Omega.{arith}
 use lib.ListN.{length, get_or}
@@ -33,13 +33,14 @@ module _ (s : Sample) (l : List Sample) (n : ℕ) where
   spotting_start e = record { whole = e; within = omega arith; up = λ j h k. absurd (omega arith) }
 
   module _ (p : ℕ) (i : Spotting s l n p) where
-    pub spotting_front : p ≤ 0 → p ≡ spot_of s l
-    spotting_front h = spot_is s l p (omega (arith, i)) (λ j k. absurd (omega arith)) i.up
+    pub spotting_front : p ≤ 0 → 0 ≡ spot_of s l
+    spotting_front h = spot_is s l 0 (omega arith) (λ j k. absurd (omega arith)) (λ j k. i.up j (omega arith))
 
     module _ (h : 0 < p) where
-      pub spotting_found : SoundTable l → stands_before s (get_or l (p - 1) blank) ≡ false → p ≡ spot_of s l
+      pub spotting_found : SoundTable l → stands_before s (get_or l (p - 1) blank) ≡ false → p - 1 + 1 ≡ spot_of s l
       spotting_found v e =
-          spot_is s l p (omega (arith, i))
+          (let same : p - 1 + 1 ≡ p = omega arith in same)
+          ∙ spot_is s l p (omega (arith, i))
           (λ j k. before-place s (get_or l j blank) ∙ le-ltb (place_of s) (place_of (get_or l j blank)) (native.Mathlib.Nat.le_trans (v.rising j (p - 1) (omega arith) (omega (arith, i.whole, i.within))) (ltb-false (place_of s) (place_of (get_or l (p - 1) blank)) (sym (before-place s (get_or l (p - 1) blank)) ∙ e))))
           i.up
 

@@ -1,4 +1,5 @@
 -- A table with the bands of an old one in a wide column is the old one: the same samples, and so the same answers. Assumes nothing.
+use Rattle.std.specs.Prelude.{Ok, Err}
 use mathlib.Core.Path.{◌≡◌, refl, sym, ap, ◌∙◌}
 use mathlib.Core.List.{List, [], ◌∷◌}
 use mathlib.Core.Bool.{Bool, true, false, ◌||◌}
@@ -15,7 +16,6 @@ use Rattle.numeric.specs.declared.refusal.Refusal.TheVariants.{TooMany}
 use Rattle.corrections_table.specs.Table.{lent_samples, beside, rows, capacity, table_of, sound_table}
 use Rattle.corrections_table.specs.Widen.{bands_short, widened, widen_of}
 use Rattle.corrections_table.specs.declared.sample.Sample.{Sample}
-use Rattle.corrections_table.specs.declared.widen.Widening.TheVariants.{Refused, Widened}
 use Rattle.corrections_table.proofs.ColumnLaws.{rows-length}
 
 -- ---- the column
@@ -68,11 +68,11 @@ not_short n narrow wide e =
       in-wide = ltb-false (length wide) n h.1;
     }
 
-pub widening_refused : (n : ℕ) (narrow wide : List ℕ) → (ltb 2048 n || ltb (length narrow) n || ltb (length wide) n) ≡ true → Refused TooMany ≡ widen_of n narrow wide
+pub widening_refused : (n : ℕ) (narrow wide : List ℕ) → (ltb 2048 n || ltb (length narrow) n || ltb (length wide) n) ≡ true → Err TooMany ≡ widen_of n narrow wide
 unfolding widen_of bands_short
 widening_refused n narrow wide e = rw e
 
-pub widening_passed : (n : ℕ) (narrow wide : List ℕ) → (ltb 2048 n || ltb (length narrow) n || ltb (length wide) n) ≡ false → Widened ≡ widen_of n narrow wide
+pub widening_passed : (n : ℕ) (narrow wide : List ℕ) → (ltb 2048 n || ltb (length narrow) n || ltb (length wide) n) ≡ false → (Ok tt) ≡ widen_of n narrow wide
 unfolding widen_of bands_short
 widening_passed n narrow wide e = rw e
 

@@ -1,9 +1,8 @@
 -- The bands of a table that was written with 8 bits for each, in a column of 32 bits (docs/SCOPE.md, "Corrections"). Definitions only.
+use Rattle.std.specs.Prelude.{Result, Ok, Err, ⊤}
+use Rattle.numeric.specs.declared.refusal.Refusal.{Refusal}
 use Rattle.std.specs.Prelude.{ℕ, Bool, cond, ◌||◌, List, ◌++◌, ltb, length, take, drop}
-use Rattle.numeric.specs.Refusal.{number_of}
 use Rattle.numeric.specs.declared.refusal.Refusal.TheVariants.{TooMany}
-use Rattle.corrections_table.specs.declared.widen.Widening.{Widening}
-use Rattle.corrections_table.specs.declared.widen.Widening.TheVariants.{Refused, Widened}
 
 -- number 2: more bands than a table may hold, or than a column has
 unfoldable pub bands_short : ℕ → List ℕ → List ℕ → Bool
@@ -13,15 +12,10 @@ bands_short n narrow wide = ltb 2048 n || ltb (length narrow) n || ltb (length w
 abbrev pub widened : ℕ → List ℕ → List ℕ → List ℕ
 widened n narrow wide = take n narrow ++ drop n wide
 
-unfoldable pub widen_of : ℕ → List ℕ → List ℕ → Widening
-widen_of n narrow wide = cond (bands_short n narrow wide) (Refused TooMany) Widened
-
--- 0, or the number of the refusal
-abbrev pub widening_number : Widening → ℕ
-widening_number (Refused r) = number_of r
-widening_number Widened = 0
+unfoldable pub widen_of : ℕ → List ℕ → List ℕ → Result ⊤ Refusal
+widen_of n narrow wide = cond (bands_short n narrow wide) (Err TooMany) (Ok tt)
 
 -- the new column afterwards: unchanged where widening is refused, else with the bands
-abbrev pub bands_after : Widening → ℕ → List ℕ → List ℕ → List ℕ
-bands_after (Refused r) n narrow wide = wide
-bands_after Widened n narrow wide = widened n narrow wide
+abbrev pub bands_after : Result ⊤ Refusal → ℕ → List ℕ → List ℕ → List ℕ
+bands_after (Err r) n narrow wide = wide
+bands_after (Ok tt) n narrow wide = widened n narrow wide

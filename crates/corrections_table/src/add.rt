@@ -17,79 +17,27 @@ pub struct Samples {
     pub samples: [Sample; 64],
 }
 
-// The outcome of tests: the refusal of the first that fails, or that all passed.
-#[derive(Clone, Copy)]
-pub enum Test {
-    Refused(Refusal),
-    Passed,
-}
-
 // Counts the samples at the front of a sound table that the sample s does not precede.
 fn spot_of(cs: &[u8], vs: &[u16], bs: &[u32], ts: &[f64], xs: &[f64], n: usize, s: Sample) -> usize
     requires { SoundRows n (columns_now cs vs bs ts xs) }
     ensures { result ≡ spot_of s (table_of n (columns_before cs vs bs ts xs)) }
 {
-    let mut p = n;
-    while p > 0 {
-        let a = sample_at(cs, vs, bs, ts, xs, p - 1);
+    for p in (0..n).rev() {
+        let a = sample_at(cs, vs, bs, ts, xs, p);
         if !precedes(s, a) {
-            return p;
+            return p + 1;
         }
-        p -= 1;
     }
-    p
+    0
 }
 
 // Inserts x at the place p of a column with n places in use, moving those from p on up by one.
-fn open_u8(d: &mut [u8], p: usize, n: usize, x: u8)
+fn open<T: Copy>(d: &mut [T], p: usize, n: usize, x: T)
     requires { (p ≤ n) × (n < length d.old) }
     ensures { d.new ≡ opened p (n - p) x d.old }
 {
-    let mut i = n;
-    while i > p {
-        d[i] = d[i - 1];
-        i -= 1;
-    }
-    d[i] = x;
-}
-
-// Inserts a 16-bit number likewise.
-fn open_u16(d: &mut [u16], p: usize, n: usize, x: u16)
-    requires { (p ≤ n) × (n < length d.old) }
-    ensures { d.new ≡ opened p (n - p) x d.old }
-{
-    let mut i = n;
-    while i > p {
-        d[i] = d[i - 1];
-        i -= 1;
-    }
-    d[i] = x;
-}
-
-// Inserts a 32-bit number likewise.
-fn open_u32(d: &mut [u32], p: usize, n: usize, x: u32)
-    requires { (p ≤ n) × (n < length d.old) }
-    ensures { d.new ≡ opened p (n - p) x d.old }
-{
-    let mut i = n;
-    while i > p {
-        d[i] = d[i - 1];
-        i -= 1;
-    }
-    d[i] = x;
-}
-
-// Inserts a float likewise.
-fn open_f64(d: &mut [f64], p: usize, n: usize, x: f64)
-    requires { (p ≤ n) × (n < length d.old) }
-    ensures { d.new ≡ opened p (n - p) x d.old }
-{
-    let mut i = n;
-    while i > p {
-        d[i] = d[i - 1];
-        i -= 1;
-    }
-    d[i] = x;
+    d.copy_within(p..n, p + 1);
+    d[p] = x;
 }
 
 // Inserts the sample s into the n samples of a sound table that has room for it.
@@ -106,11 +54,11 @@ fn insert(
     ensures { Inserts n 1 (s ∷ []) (lent cs) (lent vs) (lent bs) (lent ts) (lent xs) }
 {
     let p = spot_of(cs, vs, bs, ts, xs, n, s);
-    open_u8(cs, p, n, s.constellation);
-    open_u16(vs, p, n, s.svid);
-    open_u32(bs, p, n, s.band);
-    open_f64(ts, p, n, s.time);
-    open_f64(xs, p, n, s.correction);
+    open(cs, p, n, s.constellation);
+    open(vs, p, n, s.svid);
+    open(bs, p, n, s.band);
+    open(ts, p, n, s.time);
+    open(xs, p, n, s.correction);
 }
 
 // Inserts the first m samples of new, one after the other, into the n samples of a sound table that has room for them all.
@@ -127,11 +75,9 @@ pub fn insert_all(
     requires { RoomForAll n new m (columns_now (held cs) (held vs) (held bs) (held ts) (held xs)) }
     ensures { Inserts n m (take m new) (lent cs) (lent vs) (lent bs) (lent ts) (lent xs) }
 {
-    let mut i: usize = 0;
-    while i < m {
+    for i in 0..m {
         let s = new[i];
         insert(cs, vs, bs, ts, xs, n + i, s);
-        i += 1;
     }
 }
 
@@ -141,13 +87,11 @@ pub fn all_ranged(new: Samples) -> bool
     ensures { result ≡ every ranged (counted_samples new) }
 {
     let m = new.count;
-    let mut i: usize = 0;
-    while i < m {
+    for i in 0..m {
         let s = new.samples[i];
         if !is_ranged(s) {
             return false;
         }
-        i += 1;
     }
     true
 }

@@ -1,5 +1,5 @@
 // A sample of a correction, and the table's rows, order and soundness.
-ghost use Rattle.std.specs.Prelude.{◌≡◌, ◌&&◌, ◌||◌, ◌≤◌, ◌<◌, min, length, get_or, ltb, eqb};
+ghost use Rattle.std.specs.Prelude.{◌≡◌, ◌&&◌, ◌||◌, ◌≤◌, ◌<◌, length, get_or, ltb, eqb};
 ghost use Rattle.corrections_table.specs.Table.{blank, capacity, ranged, rows, sound_table, stands_before, table_of, time_before};
 ghost use Rattle.corrections_table.specs.Lent.{columns_before, columns_now};
 
@@ -30,23 +30,13 @@ pub fn is_earlier(t: f64, u: f64) -> bool
     !before(pattern(u), pattern(t))
 }
 
-// Returns the smaller of a and b.
-fn lesser(a: usize, b: usize) -> usize
-    ensures { result ≡ min a b }
-{
-    if a < b { a } else { b }
-}
-
 // Returns how many samples the columns have room for.
 pub fn capacity_of(cs: &[u8], vs: &[u16], bs: &[u32], ts: &[f64], xs: &[f64]) -> usize
     ensures { result ≡ capacity (columns_before cs vs bs ts xs) }
 {
-    lesser(
-        2048,
-        lesser(
-            cs.len(),
-            lesser(vs.len(), lesser(bs.len(), lesser(ts.len(), xs.len()))),
-        ),
+    2048usize.min(
+        cs.len()
+            .min(vs.len().min(bs.len().min(ts.len().min(xs.len())))),
     )
 }
 
@@ -104,8 +94,7 @@ pub fn is_sound(cs: &[u8], vs: &[u16], bs: &[u32], ts: &[f64], xs: &[f64], n: us
     }
     let mut signal = signal_of(first.constellation, first.svid, first.band);
     let mut time = first.time;
-    let mut i: usize = 1;
-    while i < n {
+    for i in 1..n {
         let a = sample_at(cs, vs, bs, ts, xs, i);
         if !is_ranged(a) {
             return false;
@@ -116,7 +105,6 @@ pub fn is_sound(cs: &[u8], vs: &[u16], bs: &[u32], ts: &[f64], xs: &[f64], n: us
         }
         signal = s;
         time = a.time;
-        i += 1;
     }
     true
 }

@@ -4,33 +4,24 @@ ghost use Rattle.corrections_table.specs.Widen.{widened, widen_of, bands_after};
 
 use numeric::refusal::Refusal;
 
-// The answer to widening: why nothing was written, or that the bands are.
-#[derive(Clone, Copy)]
-pub enum Widening {
-    Refused(Refusal),
-    Widened,
-}
-
 // Writes the first n bands.
 fn widen_all(narrow: &[u8], n: usize, wide: &mut [u32])
     requires { (n ≤ length narrow.now) × (n ≤ length wide.old) }
     ensures { wide.new ≡ widened n narrow.now wide.old }
 {
-    let mut i: usize = 0;
-    while i < n {
+    for i in 0..n {
         wide[i] = narrow[i] as u32;
-        i += 1;
     }
 }
 
 // Writes the first n bands of narrow to the front of wide. On refusal, returns it and changes nothing.
-pub fn widen_bands(narrow: &[u8], n: usize, wide: &mut [u32]) -> Widening
+pub fn widen_bands(narrow: &[u8], n: usize, wide: &mut [u32]) -> Result<(), Refusal>
     ensures { let old = narrow.now in
         (result ≡ widen_of n old wide.old) × (wide.new ≡ bands_after result n old wide.old) }
 {
     if (2048 < n) | (narrow.len() < n) | (wide.len() < n) {
-        return Widening::Refused(Refusal::TooMany);
+        return Err(Refusal::TooMany);
     }
     widen_all(narrow, n, wide);
-    Widening::Widened
+    Ok(())
 }

@@ -1,7 +1,6 @@
 // Reads a text of the line form from standard input and prints the line that answers it. A text above 32,768 bytes breaks the form, so bytes past the limit change nothing.
 #![tactic(auto)]
 
-use line_form::Printed;
 use std::io;
 use std::io::{Read, Write};
 
@@ -10,7 +9,7 @@ fn main(rt: HostRuntime) -> io::Result<()> {
     rt.reader().take(65536).read_to_end(&mut text)?;
     let mut line = [0u8; 128];
     let answer = line_form::answer(text.as_slice(), &mut line);
-    if let Printed::Line(length) = answer {
+    if let Ok(length) = answer {
         io::writer(&rt).write_all(&line[..length])?;
     }
     Ok(())

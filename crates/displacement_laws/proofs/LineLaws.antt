@@ -1,4 +1,8 @@
 -- The line that answers a text, beside the call on columns that hold its carriers. Assumes nothing.
+use Rattle.numeric.specs.Refusal.{answer_number}
+use Rattle.std.specs.Prelude.{Result, Ok, Err}
+use Rattle.numeric.specs.declared.refusal.Refusal.{Refusal}
+use Rattle.tdcp.specs.declared.displacement.Delta.{Delta}
 use mathlib.Core.Path.{◌≡◌, refl, sym, ap, ◌∙◌}
 use mathlib.Core.Bool.{Bool, true, false, ◌&&◌, ◌||◌}
 use mathlib.Core.List.{List, [], ◌∷◌}
@@ -14,10 +18,8 @@ use Rattle.records.specs.Carriers.{CarrierColumns, carrier_at, epoch_of, epoch_f
 use Rattle.records.specs.declared.pair.Profile.TheVariants.{General}
 use Rattle.numeric.specs.Rules.{ruled}
 use Rattle.tdcp.specs.Valid.{epoch_rules}
-use Rattle.tdcp.specs.Displacement.{Input, displacement_of, displacement_number}
+use Rattle.tdcp.specs.Displacement.{Input, displacement_of}
 use Rattle.tdcp.proofs.CountedLaws.{displacement-counted}
-use Rattle.tdcp.specs.declared.displacement.Displacement.{Displacement}
-use Rattle.tdcp.specs.declared.displacement.Displacement.TheVariants.{Refused, Moved}
 use Rattle.line_form.specs.Text.{is_text, text_input, displacement_in}
 use Rattle.line_form.specs.Print.{digits_text, digit_count, answer_text}
 use Rattle.line_form.specs.Answer.{answer_line}
@@ -30,10 +32,10 @@ pub line-broken : (text : List ℕ) → is_text text ≡ false → answer_line t
 unfolding answer_line displacement_in digits_text digit_count
 line-broken text e = rw e
 
-line-by : (x : Displacement) (delta₀ counts₀ : List ℕ) {number : ℕ} {delta counts : List ℕ} → number ≡ displacement_number x → delta ≡ delta_after x delta₀ → counts ≡ counts_after x counts₀
+line-by : (x : Result Delta Refusal) (delta₀ counts₀ : List ℕ) {number : ℕ} {delta counts : List ℕ} → number ≡ answer_number x → delta ≡ delta_after x delta₀ → counts ≡ counts_after x counts₀
     → answer_text x ≡ line_by number counts delta
-line-by (Refused r) delta₀ counts₀ n d c = rw (n, ne_eqb (number_of r) 0 (not-zero r))
-line-by (Moved v) delta₀ counts₀ n d c = rw (n, d, c, pattern_bits v.delta.x, pattern_bits v.delta.y, pattern_bits v.delta.z)
+line-by (Err r) delta₀ counts₀ n d c = rw (n, ne_eqb (number_of r) 0 (not-zero r))
+line-by (Ok v) delta₀ counts₀ n d c = rw (n, d, c, pattern_bits v.delta.x, pattern_bits v.delta.y, pattern_bits v.delta.z)
 
 too_many_lem : (c : CarrierColumns) (n : ℕ) → 64 < n → epoch_fits c n ≡ false
 unfolding epoch_fits
@@ -81,7 +83,7 @@ module _ (text : List ℕ) (formed : is_text text ≡ true) {previous : CarrierC
 
     -- the call is never refused by 1
     pub line_not_one : number ≡ 1 → ⊥
-    line_not_one e = never-one i (ap displacement_number (sym same) ∙ sym answers.leaves.number_is ∙ e)
+    line_not_one e = never-one i (ap answer_number (sym same) ∙ sym answers.leaves.number_is ∙ e)
 
 -- otherwise the printed line of the call on columns that hold its carriers, with the numbers of its first line
 pub line-columns : (text : List ℕ) → is_text text ≡ true → {previous : CarrierColumns} {m : ℕ} {current : CarrierColumns} {n : ℕ}

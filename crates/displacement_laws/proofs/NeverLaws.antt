@@ -1,4 +1,8 @@
 -- Numbers that a displacement never gives: 1, and in the general profile 20. Assumes nothing.
+use Rattle.numeric.specs.Refusal.{answer_number}
+use Rattle.std.specs.Prelude.{Result, Ok, Err}
+use Rattle.numeric.specs.declared.refusal.Refusal.{Refusal}
+use Rattle.tdcp.specs.declared.displacement.Delta.{Delta}
 use mathlib.Core.Logic.{◌⊎◌, inl, inr}
 use mathlib.Core.Path.{◌≡◌, refl, sym, ap, ◌∙◌}
 use mathlib.Core.Bool.{Bool, true, false, cond}
@@ -23,10 +27,8 @@ use Rattle.records.specs.Screen.{kept_of}
 use Rattle.records.specs.declared.pair.Pair.{Pair}
 use Rattle.tdcp.specs.Valid.{epoch_rules, interval_rules, few_rules}
 use Rattle.tdcp.specs.Front.{sight_rules, count_rules, city_rules, pair_rules}
-use Rattle.tdcp.specs.Displacement.{Input, pairs, round_at, fit_over, fit_by, delta_at, end_rules, moved_by, displacement_of, displacement_number}
+use Rattle.tdcp.specs.Displacement.{Input, pairs, round_at, fit_over, fit_by, delta_at, end_rules, moved_by, displacement_of}
 use Rattle.tdcp.specs.declared.displacement.Settings.{Settings}
-use Rattle.tdcp.specs.declared.displacement.Displacement.{Displacement}
-use Rattle.tdcp.specs.declared.displacement.Displacement.TheVariants.{Refused, Moved}
 
 -- ---- rounds fail by 10 alone
 
@@ -83,12 +85,12 @@ module _ (k : ℕ) (far : (k ≡ 1) ⊎ (k ≡ 20)) where
   both_avoid [] ss a b = b
   both_avoid (r ∷ rs) ss a b = (a.0, both_avoid rs ss a.1 b)
 
-  ruled-avoids : (rs : List Rule) (d : Displacement) → Avoids rs → (displacement_number d ≡ k → ⊥) → displacement_number (ruled Refused rs d) ≡ k → ⊥
+  ruled-avoids : (rs : List Rule) (d : Result Delta Refusal) → Avoids rs → (answer_number d ≡ k → ⊥) → answer_number (ruled Err rs d) ≡ k → ⊥
   unfolding ruled
   ruled-avoids [] d a h = h
   ruled-avoids (r ∷ rs) d a h = go r.applies a.0 (ruled-avoids rs d a.1 h)
     where
-      go : (b : Bool) → (b ≡ true → number_of r.refusal ≡ k → ⊥) → (displacement_number (ruled Refused rs d) ≡ k → ⊥) → displacement_number (cond b (Refused r.refusal) (ruled Refused rs d)) ≡ k → ⊥
+      go : (b : Bool) → (b ≡ true → number_of r.refusal ≡ k → ⊥) → (answer_number (ruled Err rs d) ≡ k → ⊥) → answer_number (cond b (Err r.refusal) (ruled Err rs d)) ≡ k → ⊥
       go true q ih = q refl
       go false q ih = ih
 
@@ -105,12 +107,12 @@ module _ (k : ℕ) (far : (k ≡ 1) ⊎ (k ≡ 20)) where
   unfolding city_rules
   city-avoids city ps h = ((λ a. h (and_both city _ a).0), tt)
 
-  end-avoids : (used screened : ℕ) (e : End) → EndFails e → displacement_number (concluded Refused end_rules (λ x. Moved (delta_at used screened x)) e) ≡ k → ⊥
+  end-avoids : (used screened : ℕ) (e : End) → EndFails e → answer_number (concluded Err end_rules (λ x. Ok (delta_at used screened x)) e) ≡ k → ⊥
   unfolding end_rules
   end-avoids used screened (Stopped r) e = λ q. other 10 refl refl (sym (ap number_of e) ∙ q)
-  end-avoids used screened (Reached x) e = ruled-avoids (end_rules x) (Moved (delta_at used screened x)) ((λ a. other 10 refl refl), tt) (other 0 refl refl)
+  end-avoids used screened (Reached x) e = ruled-avoids (end_rules x) (Ok (delta_at used screened x)) ((λ a. other 10 refl refl), tt) (other 0 refl refl)
 
-  moved-avoids : (city : Bool) (settings : Settings) (ps : List Pair) → (city ≡ true → 20 ≡ k → ⊥) → displacement_number (moved_by city settings ps) ≡ k → ⊥
+  moved-avoids : (city : Bool) (settings : Settings) (ps : List Pair) → (city ≡ true → 20 ≡ k → ⊥) → answer_number (moved_by city settings ps) ≡ k → ⊥
   unfolding moved_by pair_rules fit_by
   moved-avoids city settings ps h =
       ruled-avoids (pair_rules city settings ps) _
@@ -121,14 +123,14 @@ module _ (k : ℕ) (far : (k ≡ 1) ⊎ (k ≡ 20)) where
   unfolding epoch_rules interval_rules
   given-avoids i = ((λ a. other 2 refl refl), ((λ a. other 3 refl refl), ((λ a. other 4 refl refl), ((λ a. other 13 refl refl), ((λ a. other 5 refl refl), tt)))))
 
-  pub never : (i : Input) → (is_city i.profile ≡ true → 20 ≡ k → ⊥) → displacement_number (displacement_of i) ≡ k → ⊥
+  pub never : (i : Input) → (is_city i.profile ≡ true → 20 ≡ k → ⊥) → answer_number (displacement_of i) ≡ k → ⊥
   unfolding displacement_of
   never i h = ruled-avoids _ _ (given-avoids i) (moved-avoids (is_city i.profile) i.settings (pairs i) h)
 
 -- no displacement is refused by 1
-pub never-one : (i : Input) → displacement_number (displacement_of i) ≡ 1 → ⊥
+pub never-one : (i : Input) → answer_number (displacement_of i) ≡ 1 → ⊥
 never-one i = never 1 (inl refl) i (λ a e. omega (arith, e))
 
 -- none of the general profile is refused by 20
-pub never_twenty : (i : Input) → is_city i.profile ≡ false → displacement_number (displacement_of i) ≡ 20 → ⊥
+pub never_twenty : (i : Input) → is_city i.profile ≡ false → answer_number (displacement_of i) ≡ 20 → ⊥
 never_twenty i g = never 20 (inr refl) i (λ a e. let z : ◌≡◌ {A = ℕ} 0 1 = cc in omega arith)

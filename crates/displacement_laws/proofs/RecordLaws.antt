@@ -1,4 +1,8 @@
 -- The call on byte records beside the call on the columns that they are read into. Assumes nothing.
+use Rattle.numeric.specs.Refusal.{answer_number}
+use Rattle.std.specs.Prelude.{Result, Ok, Err}
+use Rattle.numeric.specs.declared.refusal.Refusal.{Refusal}
+use Rattle.tdcp.specs.declared.displacement.Delta.{Delta}
 use mathlib.Core.Path.{◌≡◌, refl, sym, ap, ◌∙◌}
 use mathlib.Core.Bool.{true}
 use mathlib.Core.List.{List, map}
@@ -15,11 +19,8 @@ use Rattle.numeric.specs.declared.vec3.Vec3.{Vec3}
 use Rattle.lists.specs.Memory.{before, after, LentNumbers}
 use Rattle.records.specs.Carriers.{epoch_fits}
 use Rattle.records.specs.declared.pair.Profile.TheVariants.{General}
-use Rattle.tdcp.specs.Displacement.{displacement_number}
 use Rattle.tdcp.specs.declared.displacement.Settings.{Settings}
 use Rattle.tdcp.specs.declared.displacement.Interval.TheVariants.{Seconds}
-use Rattle.tdcp.specs.declared.displacement.Displacement.{Displacement}
-use Rattle.tdcp.specs.declared.displacement.Displacement.TheVariants.{Refused, Moved}
 use Rattle.wire.specs.Record.{record_at, count_in, records_of}
 use Rattle.wire.specs.Columns.{RecordColumns, over, record_floats}
 use Rattle.wire.specs.Lent.{ReadAnswers}
@@ -63,10 +64,10 @@ module _ {s : List ℕ} {c₀ c : RecordColumns} {count₀ count : ℕ} (read : 
 
 -- ---- both calls
 
-beside : (x : Displacement) (delta₀ counts₀ : List ℕ) {number number' : ℕ} {delta counts out out' : List ℕ} → number ≡ displacement_number x → out' ≡ bytes_after x out
-    → number' ≡ displacement_number x → delta ≡ delta_after x delta₀ → counts ≡ counts_after x counts₀ → Beside number number' delta counts out out'
-beside (Refused r) delta₀ counts₀ n o n' d c = record { numbers = n ∙ sym n'; accepted = λ z. absurd (not-zero r (sym n ∙ z)); refused = λ z. o }
-beside (Moved v) delta₀ counts₀ n o n' d c = record { numbers = n ∙ sym n'; accepted = λ z. rw (d, c) o; refused = λ z. absurd (z n) }
+beside : (x : Result Delta Refusal) (delta₀ counts₀ : List ℕ) {number number' : ℕ} {delta counts out out' : List ℕ} → number ≡ answer_number x → out' ≡ bytes_after x out
+    → number' ≡ answer_number x → delta ≡ delta_after x delta₀ → counts ≡ counts_after x counts₀ → Beside number number' delta counts out out'
+beside (Err r) delta₀ counts₀ n o n' d c = record { numbers = n ∙ sym n'; accepted = λ z. absurd (not-zero r (sym n ∙ z)); refused = λ z. o }
+beside (Ok v) delta₀ counts₀ n o n' d c = record { numbers = n ∙ sym n'; accepted = λ z. rw (d, c) o; refused = λ z. absurd (z n) }
 
 module _ {p : List ℕ} {d₀ d : RecordColumns} {m₀ m : ℕ} (then : ReadAnswers p 0 d₀ d m₀ m) {c : List ℕ} {e₀ e : RecordColumns} {n₀ n : ℕ} (present : ReadAnswers c 0 e₀ e n₀ n)
     (dt : Float) (receiver : Vec3) (settings : Settings) where
@@ -84,8 +85,8 @@ module _ {p : List ℕ} {d₀ d : RecordColumns} {m₀ m : ℕ} (then : ReadAnsw
   records-columns {delta = delta} {counts = counts} {out = out} room a b =
       let is = same out room in
       beside (columns_displaced columns) (before delta) (before counts)
-      (a.number_is ∙ ap displacement_number is)
-      (a.result-is ∙ ap (λ (x : Displacement). bytes_after x out) is)
+      (a.number_is ∙ ap answer_number is)
+      (a.result-is ∙ ap (λ (x : Result Delta Refusal). bytes_after x out) is)
       b.leaves.number_is
       b.leaves.delta-is
       b.leaves.counts-are

@@ -1,12 +1,12 @@
 -- When a city displacement is 20, said of the columns that hold the certified carriers alone. Definitions only.
+use Rattle.std.specs.Prelude.{Result, Ok, Err, ⊤}
+use Rattle.numeric.specs.declared.refusal.Refusal.{Refusal}
 use Rattle.std.specs.Prelude.{ℕ, ◌≡◌, Bool, true, false, not, ◌&&◌, List, ◌++◌}
 use Rattle.clocks.specs.Clocks.{has}
 use Rattle.records.specs.Carriers.{CarrierColumns, carriers_of, epoch_fits}
 use Rattle.records.specs.City.{certified_of}
 use Rattle.records.specs.Screen.{constellations}
 use Rattle.numeric.specs.Rules.{Rule, ruled}
-use Rattle.estimate_rounds.specs.declared.rules.Check.{Check}
-use Rattle.estimate_rounds.specs.declared.rules.Check.TheVariants.{Refused as Stops, Passed}
 use Rattle.tdcp.specs.Valid.{epoch_rules, interval_rules}
 use Rattle.tdcp.specs.Front.{sight_rules, count_rules}
 use Rattle.tdcp.specs.Displacement.{Input, pairs, kept_pairs}
@@ -26,9 +26,9 @@ rules_before_twenty j =
 abbrev pub lacking : Input → Bool
 lacking j = not (has (constellations (kept_pairs j)) 1 && has (constellations (kept_pairs j)) 6)
 
-abbrev pub is_passed : Check → Bool
-is_passed (Stops r) = false
-is_passed Passed = true
+abbrev pub is_passed : Result ⊤ Refusal → Bool
+is_passed (Err r) = false
+is_passed (Ok tt) = true
 
 abbrev pub is_twenty : Input → Bool
-is_twenty j = is_passed (ruled Stops (rules_before_twenty j) Passed) && lacking j
+is_twenty j = is_passed (ruled Err (rules_before_twenty j) (Ok tt)) && lacking j

@@ -1,5 +1,6 @@
 // The trials of the corrections.
-use crate::report::{adding, correction};
+use crate::report::{Added, report};
+use corrections_directory::entry::Table;
 use corrections_epoch::add_epoch::add_epoch;
 use corrections_epoch::record::{BaseEpoch, Range, Settings, State, States};
 use corrections_queries::queries::one_query;
@@ -34,7 +35,6 @@ fn states(zero: Vec3) -> States {
     };
     let all = [s; 64];
     let mut out = States {
-        present: true,
         count: 3,
         states: all,
     };
@@ -58,12 +58,8 @@ fn three_ranges() -> BaseEpoch {
 }
 
 // Reports the corrections of three ranges. The last is 5 m too long and its correction is 5 m, since the other two set the clock.
-fn five_metres(rt: &impl Print, name: &[u8], maximum: f64) -> io::Result<()> {
-    let zero = Vec3 {
-        x: 0.0,
-        y: 0.0,
-        z: 0.0,
-    };
+fn five_metres(rt: &impl Print, name: &str, maximum: f64) -> io::Result<()> {
+    let zero = Vec3::ZERO;
     let settings = Settings {
         max_gap: 90.0,
         max_correction: maximum,
@@ -87,16 +83,16 @@ fn five_metres(rt: &impl Print, name: &[u8], maximum: f64) -> io::Result<()> {
         &mut table_metres,
         0,
         three_ranges(),
-        states(zero),
+        Some(states(zero)),
         zero,
         zero,
         settings,
     );
-    adding(rt, name, answer)
+    report(rt, name, answer.map(Added))
 }
 
 // Reports the correction at 15 s from samples of 1 m at 10 s and 3 m at 20 s.
-fn half_way(rt: &impl Print, name: &[u8], gap: f64) -> io::Result<()> {
+fn half_way(rt: &impl Print, name: &str, gap: f64) -> io::Result<()> {
     let block_constellation = [1u8; 2];
     let block_svid = [5u16; 2];
     let block_band = [1u32; 2];
@@ -104,29 +100,27 @@ fn half_way(rt: &impl Print, name: &[u8], gap: f64) -> io::Result<()> {
     let block_samples = [2usize; 2];
     let table_time = [10.0, 20.0];
     let table_metres = [1.0, 3.0];
-    let answer = one_query(
-        &block_constellation,
-        &block_svid,
-        &block_band,
-        &block_first,
-        &block_samples,
-        1,
-        &table_time,
-        &table_metres,
-        2,
-        gap,
-        1,
-        5,
-        1,
-        15.0,
-        0,
-    );
-    correction(rt, name, answer)
+    let table = Table {
+        block_constellation: &block_constellation,
+        block_svid: &block_svid,
+        block_band: &block_band,
+        block_first: &block_first,
+        block_samples: &block_samples,
+        blocks: 1,
+        table_time: &table_time,
+        table_metres: &table_metres,
+        table_count: 2,
+    };
+    let answer = one_query(table, gap, 1, 5, 1, 15.0, 0);
+    match answer.number {
+        0 => println!(rt; "{name}: metres {:016x}", answer.metres),
+        number => println!(rt; "{name}: refused by {number}"),
+    }
 }
 
 pub fn run(rt: &impl Print) -> io::Result<()> {
-    five_metres(rt, b"correction equal to the maximum", 5.0)?;
-    five_metres(rt, b"correction above the maximum", 4.999999999999999)?;
-    half_way(rt, b"gap equal to the limit", 10.0)?;
-    half_way(rt, b"gap above the limit", 9.999999999999998)
+    five_metres(rt, "correction equal to the maximum", 5.0)?;
+    five_metres(rt, "correction above the maximum", 4.999999999999999)?;
+    half_way(rt, "gap equal to the limit", 10.0)?;
+    half_way(rt, "gap above the limit", 9.999999999999998)
 }

@@ -1,93 +1,68 @@
 // Writes a line for each trial: its name and its answer.
-use corrections_add::add::Addition;
-use corrections_queries::queries::OneAnswer;
-use numeric::order::pattern;
+use corrections_add::add::Counts;
 use numeric::refusal::Refusal;
 use numeric::vec3::Vec3;
-use std::io;
-use tdcp::displacement::Displacement;
-use wls::fix::Fix;
+use std::{fmt, io};
+use tdcp::displacement::Delta;
+use wls::fix::Solution;
 
-fn text(rt: &impl Print, t: &[u8]) -> io::Result<()> {
-    rt.write_all(t)
-}
+// A vector, each coordinate as its 64 bits.
+#[derive(Clone, Copy)]
+struct Bits(Vec3);
 
-fn number(rt: &impl Print, n: u64) -> io::Result<()> {
-    print!(rt; "{n}")
-}
-
-// Writes a pattern as 16 digits.
-fn bits(rt: &impl Print, n: u64) -> io::Result<()> {
-    print!(rt; "{n:016x}")
-}
-
-// Writes a float as its 64 bits.
-fn float(rt: &impl Print, x: f64) -> io::Result<()> {
-    text(rt, b" ")?;
-    bits(rt, pattern(x))
-}
-
-fn vector(rt: &impl Print, v: Vec3) -> io::Result<()> {
-    float(rt, v.x)?;
-    float(rt, v.y)?;
-    float(rt, v.z)
-}
-
-fn refused(rt: &impl Print, r: Refusal) -> io::Result<()> {
-    text(rt, b": refused by ")?;
-    number(rt, r.number() as u64)
-}
-
-pub fn displacement(rt: &impl Print, name: &[u8], d: Displacement) -> io::Result<()> {
-    text(rt, name)?;
-    match d {
-        Displacement::Moved(d) => {
-            text(rt, b": used ")?;
-            number(rt, d.used as u64)?;
-            text(rt, b", screened ")?;
-            number(rt, d.screened as u64)?;
-            text(rt, b", moved")?;
-            vector(rt, d.delta)?;
-        }
-        Displacement::Refused(r) => refused(rt, r)?,
+impl fmt::Display for Bits {
+    fn fmt<W: fmt::Write>(&self, f: &mut fmt::Formatter<W>) -> fmt::Result {
+        let [x, y, z] = self.0.patterns();
+        write!(f, "{x:016x} {y:016x} {z:016x}")
     }
-    text(rt, b"\n")
 }
 
-pub fn fix(rt: &impl Print, name: &[u8], f: Fix) -> io::Result<()> {
-    text(rt, name)?;
-    match f {
-        Fix::At(s) => {
-            text(rt, b": used ")?;
-            number(rt, s.used as u64)?;
-            text(rt, b", at")?;
-            vector(rt, s.position)?;
-        }
-        Fix::Refused(r) => refused(rt, r)?,
+// A displacement.
+#[derive(Clone, Copy)]
+pub struct Moved(pub Delta);
+
+impl fmt::Display for Moved {
+    fn fmt<W: fmt::Write>(&self, f: &mut fmt::Formatter<W>) -> fmt::Result {
+        let d = self.0;
+        write!(
+            f,
+            "used {}, screened {}, moved {}",
+            d.used,
+            d.screened,
+            Bits(d.delta)
+        )
     }
-    text(rt, b"\n")
 }
 
-pub fn adding(rt: &impl Print, name: &[u8], a: Addition) -> io::Result<()> {
-    text(rt, name)?;
-    match a {
-        Addition::Added(counts) => {
-            text(rt, b": samples ")?;
-            number(rt, counts.samples as u64)?;
-        }
-        Addition::Refused(r) => refused(rt, r)?,
+// A fix.
+#[derive(Clone, Copy)]
+pub struct Fixed(pub Solution);
+
+impl fmt::Display for Fixed {
+    fn fmt<W: fmt::Write>(&self, f: &mut fmt::Formatter<W>) -> fmt::Result {
+        let s = self.0;
+        write!(f, "used {}, at {}", s.used, Bits(s.position))
     }
-    text(rt, b"\n")
 }
 
-pub fn correction(rt: &impl Print, name: &[u8], a: OneAnswer) -> io::Result<()> {
-    text(rt, name)?;
-    if a.number == 0 {
-        text(rt, b": metres ")?;
-        bits(rt, a.metres)?;
-    } else {
-        text(rt, b": refused by ")?;
-        number(rt, a.number as u64)?;
+// The counts of a table.
+#[derive(Clone, Copy)]
+pub struct Added(pub Counts);
+
+impl fmt::Display for Added {
+    fn fmt<W: fmt::Write>(&self, f: &mut fmt::Formatter<W>) -> fmt::Result {
+        write!(f, "samples {}", self.0.samples)
     }
-    text(rt, b"\n")
+}
+
+// Writes a trial's line.
+pub fn report<T: fmt::Display + Drop>(
+    rt: &impl Print,
+    name: &str,
+    answer: Result<T, Refusal>,
+) -> io::Result<()> {
+    match answer {
+        Ok(value) => println!(rt; "{name}: {value}"),
+        Err(refusal) => println!(rt; "{name}: {refusal}"),
+    }
 }

@@ -1,4 +1,5 @@
 -- The rounds as the code's loops have them: what is left to do. Assumes nothing.
+use Rattle.std.specs.Prelude.{Result, Ok, Err, ⊤}
 use mathlib.Core.Path.{◌≡◌, refl, sym, ap, ◌∙◌, subst, subst₂}
 use Prim.Native.Nat.{ℕ, suc, ◌+◌, ◌-◌, ◌≤◌, ◌<◌, min}
 use native.Mathlib.Nat.{not-suc-le-zero}
@@ -14,11 +15,9 @@ use lib.Ieee.{Float, nan, div, of_int, of_bits}
 use Rattle.exact.specs.Float.{◌⊕◌, bits, decimal}
 use Rattle.cholesky.specs.Factor.{at}
 use Rattle.robust.specs.Round.{Round, RoundOutcome, Refused, Solved}
-use Rattle.robust.specs.Steps.{Solving}
+use Rattle.robust.specs.Steps.{stepping_of}
 use Rattle.normal_equations.specs.declared.row.Row.{Row}
-use Rattle.robust.specs.declared.round.Stepping.{Stepping}
 use Rattle.numeric.specs.declared.refusal.Refusal.{Refusal}
-use Rattle.estimate_rounds.specs.declared.rules.Check.TheVariants as Check
 use Rattle.normal_equations.proofs.NineLaws.{nine-is}
 use Rattle.estimate_rounds.specs.Rounds.{End, Stopped, Reached, Fit, moved, short_step, after_round, fit_from, last_rows}
 use Rattle.estimate_rounds.specs.Steps.{Ended}
@@ -93,7 +92,7 @@ module _ (round_at : List Float → RoundOutcome) (n : ℕ) (limit : Float) (cou
     rows_end e rows l = rw e at l.last
 
     -- one round more, of which the code has the answer and the step
-    module _ (more : i < count) (a : Stepping) (before dx : List Float) (s : Solving (round_at x) a before dx) where
+    module _ (more : i < count) (a : Result (List Float) Refusal) (s : a ≡ stepping_of (round_at x)) where
       next : List Float → Fit
       next y = fit_from round_at n limit (count - (i + 1)) y
 
@@ -105,28 +104,31 @@ module _ (round_at : List Float → RoundOutcome) (n : ℕ) (limit : Float) (cou
       unfolding fit_from next
       here-rows rows l = let e : count - i ≡ suc (count - (i + 1)) = omega arith in rw e at l.last
 
-      pub left-stopped : (r : Refusal) → a ≡ Stepping.Refused r → Left i x → Stopped r ≡ f.end
+      pub left-stopped : (r : Refusal) → a ≡ Err r → Left i x → Stopped r ≡ f.end
       left-stopped r t l = go (round_at x) s (here l)
         where
-          go : (o : RoundOutcome) → Solving o a before dx → (after_round n limit x next o).end ≡ f.end → Stopped r ≡ f.end
-          go (Refused q) s e = let w : a ≡ Stepping.Refused q = s.answer-is in let same : r ≡ q = cc in ap Stopped same ∙ e
-          go (Solved q) s e = absurd (let w : a ≡ Stepping.Done = s.answer-is in let z : ◌≡◌ {A = ℕ} 0 1 = cc in omega arith)
+          go : (o : RoundOutcome) → a ≡ stepping_of o → (after_round n limit x next o).end ≡ f.end → Stopped r ≡ f.end
+          go (Refused q) s e = let same : r ≡ q = cc in ap Stopped same ∙ e
+          go (Solved q) s e = absurd (let z : ◌≡◌ {A = ℕ} 0 1 = cc in omega arith)
 
       -- y is where the step leads, and `stop` whether it is short
-      module _ (t : a ≡ Stepping.Done) (y : List Float) (stop : Bool) (moves : y ≡ moved n x dx) (stops : stop ≡ short_step limit dx) where
-        never : {A : Type 0} (r : Refusal) → Solving (Refused r) a before dx → A
-        never r s = absurd (let w : a ≡ Stepping.Refused r = s.answer-is in let z : ◌≡◌ {A = ℕ} 0 1 = cc in omega arith)
+      module _ (dx : List Float) (t : a ≡ Ok dx) (y : List Float) (stop : Bool) (moves : y ≡ moved n x dx) (stops : stop ≡ short_step limit dx) where
+        never : {A : Type 0} (r : Refusal) → a ≡ stepping_of (Refused r) → A
+        never r s = absurd (let z : ◌≡◌ {A = ℕ} 0 1 = cc in omega arith)
 
-        there : (r : Round) → Solving (Solved r) a before dx → y ≡ moved n x r.step
-        there r s = moves ∙ ap (moved n x) s.step_is
+        step-is : (r : Round) → a ≡ stepping_of (Solved r) → dx ≡ r.step
+        step-is r s = cc
 
-        is-short : (r : Round) → Solving (Solved r) a before dx → stop ≡ short_step limit r.step
-        is-short r s = stops ∙ ap (short_step limit) s.step_is
+        there : (r : Round) → a ≡ stepping_of (Solved r) → y ≡ moved n x r.step
+        there r s = moves ∙ ap (moved n x) (step-is r s)
+
+        is-short : (r : Round) → a ≡ stepping_of (Solved r) → stop ≡ short_step limit r.step
+        is-short r s = stops ∙ ap (short_step limit) (step-is r s)
 
         pub left-stops : stop ≡ true → Left i x → Reached y ≡ f.end
         left-stops w l = go (round_at x) s (here l)
           where
-            go : (o : RoundOutcome) → Solving o a before dx → (after_round n limit x next o).end ≡ f.end → Reached y ≡ f.end
+            go : (o : RoundOutcome) → a ≡ stepping_of o → (after_round n limit x next o).end ≡ f.end → Reached y ≡ f.end
             go (Refused r) s e = never r s
             go (Solved r) s e = let q : short_step limit r.step ≡ true = sym (is-short r s) ∙ w in ap Reached (there r s) ∙ (rw q at e)
 
@@ -134,7 +136,7 @@ module _ (round_at : List Float → RoundOutcome) (n : ℕ) (limit : Float) (cou
         unfolding next
         left-goes w l = go (round_at x) s (here l)
           where
-            go : (o : RoundOutcome) → Solving o a before dx → (after_round n limit x next o).end ≡ f.end → Left (i + 1) y
+            go : (o : RoundOutcome) → a ≡ stepping_of o → (after_round n limit x next o).end ≡ f.end → Left (i + 1) y
             go (Refused r) s e = never r s
             go (Solved r) s e = let q : short_step limit r.step ≡ false = sym (is-short r s) ∙ w in record { end = ap (λ (z : List Float). (next z).end) (there r s) ∙ (rw q at e) }
 
@@ -144,7 +146,7 @@ module _ (round_at : List Float → RoundOutcome) (n : ℕ) (limit : Float) (cou
           unfolding last_rows
           rows-stop w l = go (round_at x) refl s (here-rows rows l)
             where
-              go : (o : RoundOutcome) → round_at x ≡ o → Solving o a before dx → last_rows rows (after_round n limit x next o).rounds ≡ last_rows [] f.rounds → new ≡ last_rows [] f.rounds
+              go : (o : RoundOutcome) → round_at x ≡ o → a ≡ stepping_of o → last_rows rows (after_round n limit x next o).rounds ≡ last_rows [] f.rounds → new ≡ last_rows [] f.rounds
               go (Refused r) d s e = never r s
               go (Solved r) d s e = let q : short_step limit r.step ≡ true = sym (is-short r s) ∙ w in sym (news r d) ∙ (rw q at e)
 
@@ -152,7 +154,7 @@ module _ (round_at : List Float → RoundOutcome) (n : ℕ) (limit : Float) (cou
           unfolding last_rows next
           rows-go w l = go (round_at x) refl s (here-rows rows l)
             where
-              go : (o : RoundOutcome) → round_at x ≡ o → Solving o a before dx → last_rows rows (after_round n limit x next o).rounds ≡ last_rows [] f.rounds → LeftRows (i + 1) y new
+              go : (o : RoundOutcome) → round_at x ≡ o → a ≡ stepping_of o → last_rows rows (after_round n limit x next o).rounds ≡ last_rows [] f.rounds → LeftRows (i + 1) y new
               go (Refused r) d s e = never r s
               go (Solved r) d s e =
                   let q : short_step limit r.step ≡ false = sym (is-short r s) ∙ w in
@@ -160,8 +162,8 @@ module _ (round_at : List Float → RoundOutcome) (n : ℕ) (limit : Float) (cou
                   record { last = subst₂ (λ (a : List Row) (b : List Float). last_rows a (next b).rounds ≡ last_rows [] f.rounds) (news r d) (sym (there r s)) h }
 
 -- the contract of a loop that lends x
-pub ended-stopped : (e : End) (x y : List Float) {r : Refusal} → y ≡ x → Stopped r ≡ e → Ended e (Check.Refused r) x y
-ended-stopped e x y {r} k h = subst (λ z. Ended z (Check.Refused r) x y) h (record { answer-is = refl; number_is = refl; state-is = k })
+pub ended-stopped : (e : End) (x y : List Float) {r : Refusal} → y ≡ x → Stopped r ≡ e → Ended e (Err r) x y
+ended-stopped e x y {r} k h = subst (λ z. Ended z (Err r) x y) h (record { answer-is = refl; number_is = refl; state-is = k })
 
-pub ended-reached : (e : End) (x y : List Float) → Reached y ≡ e → Ended e Check.Passed x y
-ended-reached e x y h = subst (λ z. Ended z Check.Passed x y) h (record { answer-is = refl; number_is = refl; state-is = refl })
+pub ended-reached : (e : End) (x y : List Float) → Reached y ≡ e → Ended e (Ok tt) x y
+ended-reached e x y h = subst (λ z. Ended z (Ok tt) x y) h (record { answer-is = refl; number_is = refl; state-is = refl })

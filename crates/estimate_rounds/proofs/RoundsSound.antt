@@ -1,5 +1,6 @@
 -- Where the rounds of a fit reach a state whose entry 0 is finite, every one of them has a step whose entry 0 is finite, and what that gives: a step whose entry 0 is not
 -- finite would leave it so to the end. Assumes nothing.
+use Rattle.std.specs.Prelude.{Ok}
 use mathlib.Core.Path.{◌≡◌, refl, sym, ap, ◌∙◌, subst}
 use Prim.Native.Nat.{ℕ, zero, suc, ◌<◌}
 use native.Mathlib.Omega.{arith}
@@ -24,7 +25,6 @@ use Rattle.normal_equations.proofs.NineLaws.{nine-at}
 use Rattle.numeric.specs.Rules.{Rule}
 use Rattle.estimate_rounds.specs.Rounds.{End, Stopped, Reached, Fit, moved, short_step, reached_at, begun, after_round, fit_from, last_rows, finite_at, concluded}
 use Rattle.median.specs.Sorted.{Each}
-use Rattle.estimate_rounds.specs.declared.rules.Check.TheVariants.{Passed}
 use Rattle.estimate_rounds.proofs.RulesLaws.{checked, passed-of, passed-by}
 
 -- entry 0 of a state that moved is a sum
@@ -99,7 +99,7 @@ pub record Finished {A : Type 0} (rules : List Float → List Rule) (answer : Li
   pub x : List Float
   pub end_is : e ≡ Reached x
   pub answer-is : answer x ≡ ok
-  pub passed : Passed ≡ checked (rules x)
+  pub passed : (Ok tt) ≡ checked (rules x)
 
 pub finished : {A : Type 0} (refused : Refusal → A) (rules : List Float → List Rule) (answer : List Float → A) (ok : A) → ((r : Refusal) → refused r ≡ ok → ⊥) → (e : End)
     → concluded refused rules answer e ≡ ok → Finished rules answer ok e

@@ -1,21 +1,17 @@
 -- The answer of the rounds, and the lent state. Definitions only.
-use Rattle.std.specs.Prelude.{◌≡◌, ℕ, List, Float}
-use Rattle.numeric.specs.Refusal.{number_of}
+use Rattle.numeric.specs.Refusal.{answer_number}
+use Rattle.std.specs.Prelude.{Result, Ok, Err, ⊤}
+use Rattle.numeric.specs.declared.refusal.Refusal.{Refusal}
+use Rattle.std.specs.Prelude.{◌≡◌, List, Float}
 use Rattle.estimate_rounds.specs.Rounds.{End, Stopped, Reached, state_after}
-use Rattle.estimate_rounds.specs.declared.rules.Check.{Check}
-
--- the number of a check: 0, or the refusal's
-abbrev pub check_number : Check → ℕ
-check_number (Check.Refused r) = number_of r
-check_number Check.Passed = 0
 
 -- the check of where the rounds end
-abbrev pub check_of : End → Check
-check_of (Stopped r) = Check.Refused r
-check_of (Reached z) = Check.Passed
+abbrev pub check_of : End → Result ⊤ Refusal
+check_of (Stopped r) = Err r
+check_of (Reached z) = Ok tt
 
 -- the answer, its number and the lent state, which is x before and y afterwards, are those of the end
-pub record Ended (e : End) (answer : Check) (x y : List Float) : Type 0 where
+pub record Ended (e : End) (answer : Result ⊤ Refusal) (x y : List Float) : Type 0 where
   pub answer-is : answer ≡ check_of e
-  pub number_is : check_number answer ≡ check_number (check_of e)
+  pub number_is : answer_number answer ≡ answer_number (check_of e)
   pub state-is : y ≡ state_after e x

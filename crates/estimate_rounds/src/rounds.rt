@@ -35,5 +35,5 @@ pub fn state_at(x: [f64; 9], s: usize) -> f64
 pub fn rounds_of(rounds: usize) -> u32
     ensures { result ≡ min rounds 51 }
 {
-    if rounds < 51 { rounds as u32 } else { 51 }
+    rounds.min(51) as u32
 }

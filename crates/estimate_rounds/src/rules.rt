@@ -5,25 +5,18 @@ ghost use Rattle.estimate_rounds.specs.Rules.{row_rules};
 
 use numeric::refusal::Refusal;
 
-// The result of rules or rounds: the first refusal, or none.
-#[derive(Clone, Copy)]
-pub enum Check {
-    Refused(Refusal),
-    Passed,
-}
-
 // Checks rules 8 and 9.
-pub fn check_rows(rows: usize, slots: usize) -> Check
-    ensures { result ≡ ruled Check.Refused (row_rules rows slots) Check.Passed }
+pub fn check_rows(rows: usize, slots: usize) -> Result<(), Refusal>
+    ensures { result ≡ ruled Err (row_rules rows slots) (Ok tt) }
 {
     if rows < 4 {
-        return Check::Refused(Refusal::TooFewRows);
+        return Err(Refusal::TooFewRows);
     }
     if rows - 4 < slots {
-        return Check::Refused(Refusal::TooFewRows);
+        return Err(Refusal::TooFewRows);
     }
     if 6 < slots {
-        return Check::Refused(Refusal::TooManySlots);
+        return Err(Refusal::TooManySlots);
     }
-    Check::Passed
+    Ok(())
 }

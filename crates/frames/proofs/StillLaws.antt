@@ -1,4 +1,6 @@
 -- A displacement of zeros is one of zeros along north, east and down too, wherever there is an answer. Assumes nothing.
+use Rattle.std.specs.Prelude.{Result, Ok, Err}
+use Rattle.numeric.specs.declared.refusal.Refusal.{Refusal}
 use mathlib.Core.Path.{◌≡◌, refl, sym, ap, ap₂, ◌∙◌, subst}
 use Prim.Native.Nat.{ℕ, zero, suc, ◌*◌, ◌<◌}
 use native.Mathlib.Nat.{zero-mul, mul_comm, mul-pos}
@@ -12,10 +14,9 @@ use Rattle.exact.proofs.Ops.{add-finite, mul-finite}
 use Rattle.numeric.proofs.Zeros.{is_zero, round-none, zero-times}
 use Rattle.numeric.specs.declared.refusal.Refusal.TheVariants.{NotTurned}
 use Rattle.numeric.specs.declared.vec3.Vec3.{Vec3}
-use Rattle.frames.specs.Frames.{axis_turned, ned_at, place_in_range, all_finite, north_east_down}
+use Rattle.frames.specs.Frames.{axis_turned, ned_at, all_finite, north_east_down}
+use Rattle.numeric.specs.Vec3.{vector_in_range}
 use Rattle.frames.specs.declared.frames.Ned.{Ned}
-use Rattle.frames.specs.declared.frames.Compass.{Compass}
-use Rattle.frames.specs.declared.frames.Compass.TheVariants.{Refused, Along}
 
 -- ---- zeros among products and sums
 unlike-comm : (s t : Bool) → unlike s t ≡ unlike t s
@@ -103,19 +104,19 @@ module _ (r v : Vec3) (zx : T (is_zero v.x)) (zy : T (is_zero v.y)) (zz : T (is_
         no-down = sums-zero _ _ _ v.x v.y v.z zx zy zz g.down-finite;
       }
 
-  pub still : (w : Ned) → north_east_down r v ≡ Along w → NoWay w
+  pub still : (w : Ned) → north_east_down r v ≡ Ok w → NoWay w
   unfolding north_east_down
-  still w = go (place_in_range r && place_in_range v) (all_finite (ned_at r v)) no_way
+  still w = go (vector_in_range r && vector_in_range v) (all_finite (ned_at r v)) no_way
     where
-      way : Compass → Ned
-      way (Refused x) = ned_at r v
-      way (Along u) = u
+      way : Result Ned Refusal → Ned
+      way (Err x) = ned_at r v
+      way (Ok u) = u
 
-      answers : Compass → Bool
-      answers (Refused x) = false
-      answers (Along u) = true
+      answers : Result Ned Refusal → Bool
+      answers (Err x) = false
+      answers (Ok u) = true
 
-      go : (a b : Bool) → (T b → NoWay (ned_at r v)) → cond (a && b) (Along (ned_at r v)) (Refused NotTurned) ≡ Along w → NoWay w
+      go : (a b : Bool) → (T b → NoWay (ned_at r v)) → cond (a && b) (Ok (ned_at r v)) (Err NotTurned) ≡ Ok w → NoWay w
       go true true f e = subst NoWay (ap way e) (f tt)
-      go true false f e = absurd (subst (λ (c : Compass). T (answers c)) (sym e) tt)
-      go false b f e = absurd (subst (λ (c : Compass). T (answers c)) (sym e) tt)
+      go true false f e = absurd (subst (λ (c : Result Ned Refusal). T (answers c)) (sym e) tt)
+      go false b f e = absurd (subst (λ (c : Result Ned Refusal). T (answers c)) (sym e) tt)

@@ -1,17 +1,18 @@
 -- A displacement as north, east, down (docs/SCOPE.md, "North, east, down": `to_lla` and `dcm_ecef_from_ned` of frames.rs, without their angles). Definitions only.
-use Rattle.std.specs.Prelude.{◌≡◌, Bool, true, cond, ◌&&◌, ℕ, Float}
+use Rattle.std.specs.Prelude.{Result, Ok, Err}
+use Rattle.numeric.specs.declared.refusal.Refusal.{Refusal}
+use Rattle.std.specs.Prelude.{◌≡◌, Bool, true, cond, ◌&&◌, ℕ, List, [], ◌∷◌, Float}
 use Rattle.std.specs.Float.Ieee.{neg, lt, le}
 use Rattle.std.specs.Float.Ieee.Scale.{finite}
 use Rattle.exact.specs.Float.{◌⊕◌, ◌⊖◌, ◌⊗◌, ◌⊘◌, +0, 1·0, decimal}
-use Rattle.numeric.specs.Real.{hypot, -1·0, in_range as coordinateInRange}
-use Rattle.numeric.specs.Refusal.{number_of}
+use Rattle.numeric.specs.Real.{hypot, -1·0}
+use Rattle.numeric.specs.Order.{pattern_of}
+use Rattle.numeric.specs.Vec3.{vector_in_range}
 use Rattle.numeric.specs.declared.vec3.Vec3.{Vec3}
 use Rattle.numeric.specs.declared.refusal.Refusal.TheVariants.{NotTurned}
 use Rattle.frames.specs.Earth.{major_axis, minor_axis, first_square, second_square}
 use Rattle.frames.specs.declared.frames.Ned.{Ned}
 use Rattle.frames.specs.declared.frames.Angle.{Angle}
-use Rattle.frames.specs.declared.frames.Compass.{Compass}
-use Rattle.frames.specs.declared.frames.Compass.TheVariants.{Refused, Along}
 
 -- ---- angles by their sines and cosines
 
@@ -57,25 +58,21 @@ axis_turned lon lat v = record {
 unfoldable pub ned_at : Vec3 → Vec3 → Ned
 ned_at r v = let p = hypot r.x r.y in axis_turned (longitude r.x r.y p) (latitude p r.z) v
 
--- ---- the answer: 19 where a coordinate is not finite or above 1e9 in magnitude, or where a component of the result is not finite
+-- the patterns of north, east and down
+abbrev pub ned_patterns : Ned → List ℕ
+ned_patterns v = pattern_of v.n ∷ pattern_of v.e ∷ pattern_of v.d ∷ []
 
-unfoldable pub place_in_range : Vec3 → Bool
-place_in_range v = coordinateInRange v.x && coordinateInRange v.y && coordinateInRange v.z
+-- ---- the answer: 19 where a coordinate is not finite or above 1e9 in magnitude, or where a component of the result is not finite
 
 unfoldable pub all_finite : Ned → Bool
 all_finite v = finite v.n && finite v.e && finite v.d
 
-unfoldable pub north_east_down : Vec3 → Vec3 → Compass
+unfoldable pub north_east_down : Vec3 → Vec3 → Result Ned Refusal
 north_east_down position displacement =
     let v = ned_at position displacement in
-    cond (place_in_range position && place_in_range displacement && all_finite v) (Along v) (Refused NotTurned)
-
--- 0, or the number of the refusal
-abbrev pub compass_number : Compass → ℕ
-compass_number (Refused r) = number_of r
-compass_number (Along v) = 0
+    cond (vector_in_range position && vector_in_range displacement && all_finite v) (Ok v) (Err NotTurned)
 
 -- every displacement given is finite
-abbrev pub DirectionFinite : Compass → Type 0
-DirectionFinite (Refused r) = Unit {0}
-DirectionFinite (Along v) = all_finite v ≡ true
+abbrev pub DirectionFinite : Result Ned Refusal → Type 0
+DirectionFinite (Err r) = Unit {0}
+DirectionFinite (Ok v) = all_finite v ≡ true

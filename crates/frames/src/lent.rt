@@ -2,26 +2,14 @@
 ghost use Rattle.std.specs.Prelude.{◌≡◌};
 ghost use Rattle.frames.specs.Lent.{DirectionAnswered};
 
-use crate::frames::{Compass, north_east_down};
-use numeric::order::pattern;
-use numeric::refusal::Refusal;
-use numeric::vec3::vector;
+use crate::frames::{Ned, north_east_down};
+use numeric::refusal::put;
+use numeric::vec3::Vec3;
 
 // Writes the displacement at the position along north, east and down to `ned` and returns 0. On refusal, returns 19 and changes nothing.
 pub fn ned_into(position: &[f64; 3], displacement: &[f64; 3], ned: &mut [u64; 3]) -> u8
     ensures { DirectionAnswered position.now displacement.now result ned.old ned.new }
 {
-    let p = vector(position);
-    let v = vector(displacement);
-    let answer = north_east_down(p, v);
-    match answer {
-        Compass::Refused(r) => r.number(),
-        Compass::Along(along) => {
-            let n = pattern(along.n);
-            let e = pattern(along.e);
-            let d = pattern(along.d);
-            *ned = [n, e, d];
-            0
-        }
-    }
+    let answer = north_east_down(Vec3::from(*position), Vec3::from(*displacement));
+    put(answer.map(Ned::patterns), ned)
 }

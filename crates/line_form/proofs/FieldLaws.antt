@@ -16,10 +16,9 @@ use lib.ListN.{length, get_or, take, drop}
 use lib.Seq.{take-length}
 use Rattle.lists.specs.Walk.{every}
 use Rattle.line_form.specs.Field.{is_digit, decimal_value, plain, is_number, number, is_state, state, is_hex_digit, hex_value, hex, is_float, pattern_in}
-use Rattle.line_form.specs.Line.{letter}
-use Rattle.line_form.specs.Steps.{ReadsNumber, ReadsState, ReadsPattern}
-use Rattle.line_form.specs.declared.field.Number.{Number}
-use Rattle.line_form.specs.declared.field.Signed.{Signed}
+use Rattle.std.specs.Prelude.{Option, Some, None}
+use Rattle.std.proofs.lemmas.Option.{none-some}
+use Rattle.line_form.specs.Steps.{formed, ReadsNumber}
 use Rattle.line_form.proofs.SplitLaws.{left_end, left_at, every-at}
 
 -- ---- the front of a number
@@ -52,34 +51,18 @@ unfolding decimal_value
 decimal-le n [] = omega arith
 decimal-le n (b ∷ s) = omega (arith, decimal-le (n * 10 + (b - 48)) s)
 
-pub digit-yes : (b : ℕ) → 48 ≤ b → b ≤ 57 → is_digit b ≡ true
-digit-yes b p q = simp (le-leb 48 b p, le-leb b 57 q)
-
-pub digit_low : (b : ℕ) → b < 48 → is_digit b ≡ false
-digit_low b p = simp (lt-leb 48 b p)
-
-pub digit-high : (b : ℕ) → 57 < b → is_digit b ≡ false
-digit-high b p = go (leb 48 b)
-  where
-    go : (t : Bool) → (t && leb b 57) ≡ false
-    go true = lt-leb b 57 p
-    go false = refl
-
 -- ---- a number, by what the code finds
 
-abbrev pub said : Bool → ℕ → Number
-said f n = record { formed = f; value = n }
-
-module _ (limit : ℕ) (z : 0 < limit) (s : List ℕ) where
-  broken : is_number limit s ≡ false → ReadsNumber limit s (said false 0)
+module _ (limit : ℕ) (s : List ℕ) where
+  broken : is_number limit s ≡ false → ReadsNumber limit s None
   unfolding number
-  broken e = record { formed = sym e; value = sym (ap (λ (t : Bool). cond t (decimal_value 0 s) 0) e); below = z }
+  broken e = record { reads = rw e; below = tt }
 
-  pub number-front : plain s ≡ false → ReadsNumber limit s (said false 0)
+  pub number-front : plain s ≡ false → ReadsNumber limit s None
   unfolding is_number
   number-front p = broken (simp p)
 
-  number_digits : every is_digit s ≡ false → ReadsNumber limit s (said false 0)
+  number_digits : every is_digit s ≡ false → ReadsNumber limit s None
   unfolding is_number
   number_digits e = broken (go (plain s))
     where
@@ -87,7 +70,7 @@ module _ (limit : ℕ) (z : 0 < limit) (s : List ℕ) where
       go true = simp e
       go false = refl
 
-  number-large : limit ≤ decimal_value 0 s → ReadsNumber limit s (said false 0)
+  number-large : limit ≤ decimal_value 0 s → ReadsNumber limit s None
   unfolding is_number
   number-large h = broken (go (plain s) (every is_digit s))
     where
@@ -96,11 +79,11 @@ module _ (limit : ℕ) (z : 0 < limit) (s : List ℕ) where
       go true false = refl
       go false u = refl
 
-  number_is : (n : ℕ) → n ≡ decimal_value 0 s → plain s ≡ true → every is_digit s ≡ true → n < limit → ReadsNumber limit s (said true n)
+  number_is : (n : ℕ) → n ≡ decimal_value 0 s → plain s ≡ true → every is_digit s ≡ true → n < limit → ReadsNumber limit s (Some n)
   unfolding is_number number
   number_is n v p e l =
       let f : is_number limit s ≡ true = simp (p, e, lt-ltb (decimal_value 0 s) limit (omega arith)) in
-      record { formed = sym f; value = v ∙ sym (ap (λ (t : Bool). cond t (decimal_value 0 s) 0) f); below = l }
+      record { reads = rw (f, v); below = l }
 
 -- the invariant of the loop over a number's digits
 pub record Reading (limit : ℕ) (s : List ℕ) (n i : ℕ) : Type 0 where
@@ -111,12 +94,12 @@ pub record Reading (limit : ℕ) (s : List ℕ) (n i : ℕ) : Type 0 where
 
 module _ (limit : ℕ) (s : List ℕ) (n i : ℕ) (inv : Reading limit s n i) where
   module _ (l : i < length s) where
-    pub reading-no : is_digit (get_or s i 0) ≡ false → ReadsNumber limit s (said false 0)
-    reading-no d = number_digits limit (omega (arith, inv.below)) s (sym inv.digits ∙ every-at is_digit s i l ∙ ap (λ (t : Bool). t && every is_digit (drop (i + 1) s)) d)
+    pub reading-no : is_digit (get_or s i 0) ≡ false → ReadsNumber limit s None
+    reading-no d = number_digits limit s (sym inv.digits ∙ every-at is_digit s i l ∙ ap (λ (t : Bool). t && every is_digit (drop (i + 1) s)) d)
 
-    pub reading-large : limit ≤ n * 10 + (get_or s i 0 - 48) → ReadsNumber limit s (said false 0)
+    pub reading-large : limit ≤ n * 10 + (get_or s i 0 - 48) → ReadsNumber limit s None
     reading-large h =
-        number-large limit (omega (arith, inv.below)) s (omega (arith, decimal-le (n * 10 + (get_or s i 0 - 48)) (drop (i + 1) s), decimal-at n s i l, inv.value))
+        number-large limit s (omega (arith, decimal-le (n * 10 + (get_or s i 0 - 48)) (drop (i + 1) s), decimal-at n s i l, inv.value))
 
     pub reading-more : is_digit (get_or s i 0) ≡ true → n * 10 + (get_or s i 0 - 48) < limit → Reading limit s (n * 10 + (get_or s i 0 - 48)) (i + 1)
     reading-more d h =
@@ -127,24 +110,23 @@ module _ (limit : ℕ) (s : List ℕ) (n i : ℕ) (inv : Reading limit s n i) wh
           value = sym (decimal-at n s i l) ∙ inv.value;
         }
 
-  pub reading-end : length s ≤ i → plain s ≡ true → ReadsNumber limit s (said true n)
+  pub reading-end : length s ≤ i → plain s ≡ true → ReadsNumber limit s (Some n)
   unfolding every decimal_value
   reading-end l p =
       let e = left_end s i l in
       let v : n ≡ decimal_value 0 s = rw e at inv.value in
-      number_is limit (omega (arith, inv.below)) s n v p (sym (rw e at inv.digits)) inv.below
+      number_is limit s n v p (sym (rw e at inv.digits)) inv.below
 
 -- ---- hexadecimal digits
 
-patternless : (s : List ℕ) → is_float s ≡ false → ReadsPattern s (said false 0)
-unfolding pattern_in
-patternless s e = record { formed = sym e; value = sym (ap (λ (t : Bool). cond t (hex 0 s) 0) e) }
+patternless : (s : List ℕ) → is_float s ≡ false → None ≡ formed (is_float s) (pattern_in s)
+patternless s e = rw e
 
-pub pattern_long : (s : List ℕ) → (length s ≡ 16 → ⊥) → ReadsPattern s (said false 0)
+pub pattern_long : (s : List ℕ) → (length s ≡ 16 → ⊥) → None ≡ formed (is_float s) (pattern_in s)
 unfolding is_float
 pattern_long s h = patternless s (simp (ne_eqb _ _ h))
 
-pattern_digits : (s : List ℕ) → every is_hex_digit s ≡ false → ReadsPattern s (said false 0)
+pattern_digits : (s : List ℕ) → every is_hex_digit s ≡ false → None ≡ formed (is_float s) (pattern_in s)
 unfolding is_float
 pattern_digits s e = patternless s (go (eqb (length s) 16))
   where
@@ -201,7 +183,7 @@ hexing_start s = record { within = omega arith; below = omega arith; digits = re
 
 module _ (s : List ℕ) (n i : ℕ) (inv : Hexing s n i) where
   module _ (l : i < length s) where
-    pub hexing_no : is_hex_digit (get_or s i 0) ≡ false → ReadsPattern s (said false 0)
+    pub hexing_no : is_hex_digit (get_or s i 0) ≡ false → None ≡ formed (is_float s) (pattern_in s)
     hexing_no d = pattern_digits s (sym inv.digits ∙ every-at is_hex_digit s i l ∙ ap (λ (t : Bool). t && every is_hex_digit (drop (i + 1) s)) d)
 
     -- what the next digit makes of the number fits 64 bits
@@ -223,84 +205,20 @@ module _ (s : List ℕ) (n i : ℕ) (inv : Hexing s n i) where
           value = ap (λ (k : ℕ). hex (n * 16 + k) (drop (i + 1) s)) e ∙ sym (hex-at n s i l) ∙ inv.value;
         }
 
-  pub hexing_end : length s ≤ i → length s ≡ 16 → ReadsPattern s (said true n)
+  pub hexing_end : length s ≤ i → length s ≡ 16 → Some n ≡ formed (is_float s) (pattern_in s)
   unfolding every hex
   hexing_end l e =
       let r = left_end s i l in
       let v : n ≡ hex 0 s = rw r at inv.value in
       let f = is-float s e (sym (rw r at inv.digits)) in
-      record { formed = sym f; value = v ∙ sym (pattern-is s f) }
+      rw (f, v, pattern-is s f)
 
--- ---- the letter of a line
+-- ---- a form that holds and one that doesn't
 
-pub letter-one : (s : List ℕ) → length s ≡ 1 → get_or s 0 0 ≡ letter s
-letter-one [] e = absurd (omega arith)
-letter-one (b ∷ []) e = refl
-letter-one (b ∷ (c ∷ s)) e = absurd (omega arith)
+pub formed-no : {A : Type 0} (b : Bool) (x : A) → None ≡ formed b x → b ≡ false
+formed-no true x e = absurd (none-some _ e)
+formed-no false x e = refl
 
-pub letter-other : (s : List ℕ) → (length s ≡ 1 → ⊥) → 0 ≡ letter s
-letter-other [] e = refl
-letter-other (b ∷ []) e = absurd (e refl)
-letter-other (b ∷ (c ∷ s)) e = refl
-
--- ---- numbers below zero
-
-low : (n : ℕ) → negsuc 0 -ℤ pos n ≡ negsuc n
-low zero = refl
-low (suc n) = ap negsuc (omega arith)
-
-minus_one : (n : ℕ) → n < 2 ^ 31 → to_z w32 (2 ^ 32 - 1) -ℤ to_z w32 n ≡ negsuc n
-minus_one n h = ap (λ (z : ℤ). negsuc 0 -ℤ z) (to_z_pos w32 h) ∙ low n
-
-pub minus-fits : (n : ℕ) → n < 2 ^ 31 → SFits w32 (to_z w32 (2 ^ 32 - 1) -ℤ to_z w32 n)
-minus-fits n h = rw (minus_one n h) (record { sfits = h })
-
-pub minus_is : (n : ℕ) → n < 2 ^ 31 → to_z w32 (of_z w32 (to_z w32 (2 ^ 32 - 1) -ℤ to_z w32 n)) ≡ negsuc n
-minus_is n h = to_z-of_z (minus-fits n h) ∙ minus_one n h
-
-pub negated-none : (n : ℕ) → n ≡ 0 → pos 0 ≡ neg_ℤ (pos n)
-negated-none n e = sym (ap (λ (k : ℕ). neg_ℤ (pos k)) e)
-
-pub negated-some : (n : ℕ) → (n ≡ 0 → ⊥) → negsuc (n - 1) ≡ neg_ℤ (pos n)
-negated-some zero h = absurd (h refl)
-negated-some (suc n) h = ap negsuc e
-  where
-    e : suc n - 1 ≡ n
-    e = omega arith
-
--- ---- signed numbers
-
-abbrev pub signed : Bool → ℤ → Signed
-signed f z = record { formed = f; value = z }
-
-pub state-none : (s : List ℕ) → length s ≡ 0 → ReadsState s (signed false (pos 0))
-unfolding is_state state
-state-none [] e = record { formed = refl; value = refl }
-state-none (b ∷ s) e = absurd (omega arith)
-
-module _ (b : ℕ) (s : List ℕ) where
-  minus : eqb b 45 ≡ true → ReadsState (b ∷ s) (signed (is_number (2 ^ 31 + 1) s && not (eqb (number (2 ^ 31 + 1) s) 0)) (neg_ℤ (pos (number (2 ^ 31 + 1) s))))
-  unfolding is_state state
-  minus e = record { formed = simp e; value = simp e }
-
-  plus : eqb b 45 ≡ false → ReadsState (b ∷ s) (signed (is_number (2 ^ 31) (b ∷ s)) (pos (number (2 ^ 31) (b ∷ s))))
-  unfolding is_state state
-  plus e = record { formed = simp e; value = simp e }
-
-pub state-minus : (s : List ℕ) (r : Number) (z : ℤ) → (length s ≡ 0 → ⊥) → get_or s 0 0 ≡ 45 → ReadsNumber (2 ^ 31 + 1) (take (length s - 1) (drop 1 s)) r → z ≡ neg_ℤ (pos r.value) → ReadsState s (signed (r.formed && not (eqb r.value 0)) z)
-state-minus [] r z l e q h = absurd (l refl)
-state-minus (b ∷ s) r z l e q h =
-    let k : suc (length s) - 1 ≡ length s = omega arith in
-    let t : take (suc (length s) - 1) s ≡ s = ap (λ (j : ℕ). take j s) k ∙ take-length s in
-    let q' : ReadsNumber (2 ^ 31 + 1) s r = subst (λ (u : List ℕ). ReadsNumber (2 ^ 31 + 1) u r) t q in
-    let m = minus b s (eq-eqb b 45 e) in
-    record {
-      formed = ap (λ (g : Bool). g && not (eqb r.value 0)) q'.formed ∙ ap (λ (j : ℕ). is_number (2 ^ 31 + 1) s && not (eqb j 0)) q'.value ∙ m.formed;
-      value = h ∙ ap (λ (j : ℕ). neg_ℤ (pos j)) q'.value ∙ m.value;
-    }
-
-pub state-plus : (s : List ℕ) (r : Number) → (length s ≡ 0 → ⊥) → (get_or s 0 0 ≡ 45 → ⊥) → ReadsNumber (2 ^ 31) s r → ReadsState s (signed r.formed (to_z w32 r.value))
-state-plus [] r l e q = absurd (l refl)
-state-plus (b ∷ s) r l e q =
-    let m = plus b s (ne_eqb b 45 e) in
-    record { formed = q.formed ∙ m.formed; value = to_z_pos w32 q.below ∙ ap pos q.value ∙ m.value }
+pub formed-yes : {A : Type 0} (b : Bool) (x v : A) → Some v ≡ formed b x → (b ≡ true) × (v ≡ x)
+formed-yes true x v e = (refl, cc)
+formed-yes false x v e = absurd (none-some _ (sym e))

@@ -2,7 +2,6 @@ pub mod SplitLaws
 pub mod FieldLaws
 pub mod PartLaws
 pub mod PrintLaws
-pub mod LineLaws
 pub mod TextLaws
 pub mod FloatLaws
 pub mod NumberLaws

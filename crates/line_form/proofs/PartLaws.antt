@@ -10,9 +10,9 @@ use lib.Dec.{T, eqb}
 use borrow.Author.Tests.{eq-eqb, ne_eqb}
 use lib.ListN.{length, get_or, take, drop, set, length-drop, length-set}
 use lib.Seq.{get_or-set_same, get_or-set_other, get_or-drop, drop-drop}
+use Rattle.std.specs.Prelude.{Some, None}
 use Rattle.line_form.specs.Split.{split, field}
 use Rattle.line_form.specs.Steps.{count_before, Part, FieldsOf}
-use Rattle.line_form.specs.Line.{eleven}
 use Rattle.line_form.proofs.SplitLaws.{split-some, part-last, part-next, part-head, found-le}
 
 -- the fields before k are found, and the field k begins at `at`
@@ -86,25 +86,21 @@ module _ (line from : List ℕ) (at k r : ℕ) (inv : Parting line from at k) (i
       }
 
   -- too few fields
-  pub parting_few : k < 10 → r ≡ length line → (from' : List ℕ) → FieldsOf line (record { eleven = false; from = from' })
-  parting_few l e from' =
+  pub parting_few : k < 10 → r ≡ length line → FieldsOf line None
+  parting_few l e =
       let c : length (split 44 line) - k ≡ 1 = sym count ∙ ap length (part-last 44 line at r inv.within is e) in
-      record { eleven = sym (ne_eqb (length (split 44 line)) 11 (λ h. omega arith)); parted = λ h. absurd (subst T (sym h) tt) }
+      ne_eqb (length (split 44 line)) 11 (λ h. omega arith)
 
   -- the last field
-  pub parting_end : 10 ≤ k → FieldsOf line (record { eleven = eqb r (length line); from = set from 11 (r + 1) })
-  parting_end l =
+  pub parting_end : 10 ≤ k → r ≡ length line → FieldsOf line (Some (set from 11 (r + 1)))
+  parting_end l z =
       let t : k ≡ 10 = omega (arith, inv.few) in
-      record {
-        eleven = go (dec_lt r (length line));
-        parted = λ h. record { part = λ j g. all 11 (omega arith) j (omega arith) };
-      }
-    where
-      go : Dec (r < length line) → eqb r (length line) ≡ eleven line
-      go (yes q) =
-          let c : length (split 44 line) - k ≡ suc (length (split 44 (drop (r + 1) line))) = sym count ∙ ap length (part-next 44 line at r inv.within is q) in
-          ne_eqb r (length line) (λ h. omega arith) ∙ sym (ne_eqb (length (split 44 line)) 11 (λ h. omega (arith, inv.few, split-some 44 (drop (r + 1) line))))
-      go (no q) =
-          let z : r ≡ length line = omega (arith, le) in
-          let c : length (split 44 line) - k ≡ 1 = sym count ∙ ap length (part-last 44 line at r inv.within is z) in
-          eq-eqb r (length line) z ∙ sym (eq-eqb (length (split 44 line)) 11 (omega (arith, inv.few)))
+      let c : length (split 44 line) - k ≡ 1 = sym count ∙ ap length (part-last 44 line at r inv.within is z) in
+      (eq-eqb (length (split 44 line)) 11 (omega (arith, inv.few)), record { part = λ j g. all 11 (omega arith) j (omega arith) })
+
+  -- too many
+  pub parting_many : 10 ≤ k → (r ≡ length line → ⊥) → FieldsOf line None
+  parting_many l ne =
+      let q : r < length line = omega (arith, le) in
+      let c : length (split 44 line) - k ≡ suc (length (split 44 (drop (r + 1) line))) = sym count ∙ ap length (part-next 44 line at r inv.within is q) in
+      ne_eqb (length (split 44 line)) 11 (λ h. omega (arith, inv.few, split-some 44 (drop (r + 1) line)))

@@ -59,9 +59,6 @@ module _ (d : List ℕ) (at : ℕ) where
   pub put-set : (g : ℕ) → at < length d → PutBytes d (set d at g) at (g ∷ []) (at + 1)
   put-set g l = record { bytes = set-written g l; next = refl; room = omega arith }
 
-  pub put-spelt : (a xs : List ℕ) → a ≡ overwritten d at xs → at + length xs ≤ length d → PutBytes d a at xs (at + length xs)
-  put-spelt a xs e l = record { bytes = e; next = refl; room = l }
-
 pub put-put : {d a b xs ys : List ℕ} {at r q : ℕ} → PutBytes d a at xs r → PutBytes a b r ys q → PutBytes d b at (xs ++ ys) q
 put-put {d} {a} {b} {xs} {ys} {at} {r} {q} p p' =
     let l : at + length xs ≤ length d = omega (arith, p.next, p.room) in

@@ -1,4 +1,7 @@
 -- The lines of a text, and the loop over them. Assumes nothing.
+use Rattle.std.specs.Prelude.{Result, Ok, Err, Option, Some, None}
+use Rattle.numeric.specs.declared.refusal.Refusal.{Refusal}
+use Rattle.tdcp.specs.declared.displacement.Delta.{Delta}
 use mathlib.Core.Path.{◌≡◌, refl, sym, ap, ◌∙◌}
 use mathlib.Core.Bool.{Bool, true, false, cond, not, ◌&&◌, ◌||◌}
 use mathlib.Core.List.{List, [], ◌∷◌}
@@ -27,20 +30,17 @@ use Rattle.records.proofs.EpochLaws.{cut-count, cut_fits, cut-is}
 use Rattle.tdcp.specs.Displacement.{Input, general, displacement_of, Promised}
 use Rattle.tdcp.specs.declared.displacement.Settings.{Settings}
 use Rattle.tdcp.specs.declared.displacement.Interval.TheVariants.{Seconds}
-use Rattle.tdcp.specs.declared.displacement.Displacement.{Displacement}
-use Rattle.tdcp.specs.declared.displacement.Displacement.TheVariants.{Refused, Moved}
 use Rattle.tdcp.proofs.CountedLaws.{displacement-counted}
 use Rattle.tdcp.proofs.DisplacementCall.{too_many}
 use Rattle.line_form.specs.Split.{split}
-use Rattle.line_form.specs.Steps.{count_before, first_line, lines_displacement, Printable, HoldsEpoch, Keeps, ReadsNext, LinesDisplace, Displaces}
+use Rattle.line_form.specs.Steps.{count_before, formed, lines_displacement, Printable, HoldsEpoch, Keeps, ReadsNext, LinesDisplace, Displaces}
 use Rattle.line_form.specs.Line.{is_settings, given_in, line_of}
 use Rattle.line_form.specs.Text.{is_record, records_form, lines_form, is_text, no_carriers, with_carrier, previous_after, current_after, previous_from, current_from, input_in, text_input, displacement_in}
 use Rattle.line_form.specs.declared.line.Given.{Given}
-use Rattle.line_form.specs.declared.line.First.{First}
-use Rattle.line_form.specs.declared.line.First.TheVariants.{Is, Broken as First-as-Broken}
 use Rattle.line_form.specs.declared.line.Line.{Line}
 use Rattle.line_form.specs.declared.line.Line.TheVariants.{Previous, Current, Broken}
 use Rattle.line_form.specs.declared.text.Next.{Next}
+use Rattle.line_form.proofs.FieldLaws.{formed-no, formed-yes}
 use Rattle.line_form.proofs.SplitLaws.{left_end, left_at, split-some, part-last, part-next}
 
 -- ---- one carrier more, with room and without
@@ -236,9 +236,9 @@ module _ {s : List ℕ} {f at m n : ℕ} {ss : List ℕ} {ts : List ℤ} {fs : L
 
 -- ---- the whole text
 
-pub refused : (s : List ℕ) → is_text s ≡ false → Displaces s (Refused BrokenForm)
+pub refused : (s : List ℕ) → is_text s ≡ false → Displaces s (Err BrokenForm)
 unfolding displacement_in
-refused s e = record { answer = sym (ap (λ (t : Bool). cond t (displacement_of (text_input s)) (Refused BrokenForm)) e); printable = tt }
+refused s e = record { answer = sym (ap (λ (t : Bool). cond t (displacement_of (text_input s)) (Err BrokenForm)) e); printable = tt }
 
 pub text-long : (s : List ℕ) → 32768 < length s → is_text s ≡ false
 unfolding is_text
@@ -255,15 +255,15 @@ number nan h = h
 number (inf s) h = tt
 number (fin s m k) h = tt
 
-printable : (i : Input) (r : Displacement) → Promised i r → Printable r
-printable i (Refused x) p = tt
-printable i (Moved d) p =
+printable : (i : Input) (r : Result Delta Refusal) → Promised i r → Printable r
+printable i (Err x) p = tt
+printable i (Ok d) p =
     let a = p.accepted d refl in
     (number d.delta.x a.x-finite, number d.delta.y a.y-finite, number d.delta.z a.z-finite)
 
 -- ---- the lines from f on
 module _ (s : List ℕ) (f : ℕ) (dt : Float) (receiver : Vec3) (settings : Settings) where
-  pub lines-broken : records_form (split 10 (drop f s)) ≡ false → LinesDisplace (drop f s) dt receiver settings (Refused BrokenForm)
+  pub lines-broken : records_form (split 10 (drop f s)) ≡ false → LinesDisplace (drop f s) dt receiver settings (Err BrokenForm)
   unfolding lines_displacement
   lines-broken e = record { answer = rw e; printable = tt }
 
@@ -272,11 +272,11 @@ module _ (s : List ℕ) (f : ℕ) (dt : Float) (receiver : Vec3) (settings : Set
     abbrev i : Input
     i = general inv.previous inv.current dt receiver settings
 
-    answered : {d : Displacement} → d ≡ displacement_of i → Printable d → LinesDisplace (drop f s) dt receiver settings d
+    answered : {d : Result Delta Refusal} → d ≡ displacement_of i → Printable d → LinesDisplace (drop f s) dt receiver settings d
     unfolding lines_displacement
     answered e p = record { answer = rw (going-form inv l, going-past inv l, going-present inv l) e; printable = p }
 
-    pub lines-many : (ltb 64 m || ltb 64 n) ≡ true → LinesDisplace (drop f s) dt receiver settings (Refused TooMany)
+    pub lines-many : (ltb 64 m || ltb 64 n) ≡ true → LinesDisplace (drop f s) dt receiver settings (Err TooMany)
     lines-many e = answered (too_many i (rw (← inv.held.count-is, ← inv.held'.count-is) e)) tt
 
     module _ (few : m ≤ 64) (few' : n ≤ 64) where
@@ -298,7 +298,7 @@ module _ (s : List ℕ) (f : ℕ) (dt : Float) (receiver : Vec3) (settings : Set
       pub fits' : SignalsFit (take n ss') ts' fs'
       fits' = cut_fits ss' ts' fs' n laid'.signals-long few' (omega (arith, laid'.states-long)) (omega (arith, laid'.floats-long)) laid'.small
 
-      pub lines_are : (d : Displacement) → Promised (general (epoch_in (take m ss) ts fs) (epoch_in (take n ss') ts' fs') dt receiver settings) d → LinesDisplace (drop f s) dt receiver settings d
+      pub lines_are : (d : Result Delta Refusal) → Promised (general (epoch_in (take m ss) ts fs) (epoch_in (take n ss') ts' fs') dt receiver settings) d → LinesDisplace (drop f s) dt receiver settings d
       lines_are d p =
           answered
           (p.answer
@@ -316,7 +316,7 @@ module _ (s : List ℕ) (h : length s ≤ 32768) (r : ℕ) (is : r ≡ 0 + count
   unfolding records_form
   text-one e = inside ∙ ap lines_form (part-last 10 s 0 r (omega arith) is e) ∙ and-false (is_settings s)
 
-  module _ (l : r < length s) (x : First) (e : x ≡ first_line (take r s)) where
+  module _ (l : r < length s) (x : Option Given) (e : x ≡ formed (is_settings (take r s)) (given_in (take r s))) where
     lines : split 10 s ≡ take r s ∷ split 10 (drop (r + 1) s)
     lines =
         let z : r - 0 ≡ r = omega arith in
@@ -325,45 +325,23 @@ module _ (s : List ℕ) (h : length s ≤ 32768) (r : ℕ) (is : r ≡ 0 + count
     text-form : is_text s ≡ (is_settings (take r s) && records_form (split 10 (drop (r + 1) s)))
     text-form = inside ∙ ap lines_form lines
 
-    pub text-cut : records_form (split 10 (drop (r + 1) s)) ≡ false → is_text s ≡ false
-    text-cut b = text-form ∙ ap (λ (t : Bool). is_settings (take r s) && t) b ∙ and-false (is_settings (take r s))
+    pub text-first : x ≡ None → is_text s ≡ false
+    text-first b = text-form ∙ ap (λ (t : Bool). t && records_form (split 10 (drop (r + 1) s))) (formed-no _ _ (sym b ∙ e))
 
-    pub text-first : x ≡ First-as-Broken → is_text s ≡ false
-    unfolding first_line
-    text-first b = text-form ∙ go (is_settings (take r s)) refl
-      where
-        never : (g : Given) → ◌≡◌ {A = First} First-as-Broken (Is g) → ⊥
-        never g q = let z : ◌≡◌ {A = ℕ} 0 1 = cc in omega arith
-
-        go : (t : Bool) → is_settings (take r s) ≡ t → (t && records_form (split 10 (drop (r + 1) s))) ≡ false
-        go true q = absurd (never (given_in (take r s)) (sym b ∙ e ∙ ap (λ (t : Bool). cond t (Is (given_in (take r s))) First-as-Broken) q))
-        go false q = refl
-
-    module _ (g : Given) (b : x ≡ Is g) where
-      first : (is_settings (take r s) ≡ true) × (given_in (take r s) ≡ g)
-      unfolding first_line
-      first = go (is_settings (take r s)) refl
-        where
-          never : ◌≡◌ {A = First} First-as-Broken (Is g) → ⊥
-          never q = let z : ◌≡◌ {A = ℕ} 0 1 = cc in omega arith
-
-          same : (a : Given) → ◌≡◌ {A = First} (Is a) (Is g) → a ≡ g
-          same a q = cc
-
-          go : (t : Bool) → is_settings (take r s) ≡ t → (is_settings (take r s) ≡ true) × (given_in (take r s) ≡ g)
-          go true q = (q, same (given_in (take r s)) (sym (ap (λ (t : Bool). cond t (Is (given_in (take r s))) First-as-Broken) q) ∙ sym e ∙ b))
-          go false q = absurd (never (sym (ap (λ (t : Bool). cond t (Is (given_in (take r s))) First-as-Broken) q) ∙ sym e ∙ b))
+    module _ (g : Given) (b : x ≡ Some g) where
+      first : (is_settings (take r s) ≡ true) × (g ≡ given_in (take r s))
+      first = formed-yes _ _ _ (sym b ∙ e)
 
       -- the displacement of the lines after the first
-      pub text-is : (d : Displacement) → LinesDisplace (drop (r + 1) s) g.dt g.receiver g.settings d → Displaces s d
+      pub text-is : (d : Result Delta Refusal) → LinesDisplace (drop (r + 1) s) g.dt g.receiver g.settings d → Displaces s d
       unfolding displacement_in text_input lines_displacement
       text-is d y =
           let ls = split 10 (drop (r + 1) s) in
           let f : is_text s ≡ records_form ls = text-form ∙ ap (λ (t : Bool). t && records_form ls) first.0 in
           let i : general (previous_from no_carriers ls) (current_from no_carriers ls) g.dt g.receiver g.settings ≡ text_input s =
           sym (ap (λ (v : List (List ℕ)). input_in (get_or v 0 []) (drop 1 v)) lines
-          ∙ ap (λ (a : Given). general (previous_from no_carriers ls) (current_from no_carriers ls) a.dt a.receiver a.settings) first.1) in
+          ∙ ap (λ (a : Given). general (previous_from no_carriers ls) (current_from no_carriers ls) a.dt a.receiver a.settings) (sym first.1)) in
           record {
-            answer = y.answer ∙ ap (λ (v : Input). cond (records_form ls) (displacement_of v) (Refused BrokenForm)) i ∙ sym (ap (λ (t : Bool). cond t (displacement_of (text_input s)) (Refused BrokenForm)) f);
+            answer = y.answer ∙ ap (λ (v : Input). cond (records_form ls) (displacement_of v) (Err BrokenForm)) i ∙ sym (ap (λ (t : Bool). cond t (displacement_of (text_input s)) (Err BrokenForm)) f);
             printable = y.printable;
           }

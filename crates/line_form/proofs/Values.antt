@@ -1,4 +1,5 @@
 -- Worked values of the line form, computed from the definitions. Assumes nothing.
+use Rattle.std.specs.Prelude.{Ok, Err}
 use mathlib.Core.Path.{◌≡◌, refl}
 use mathlib.Core.Bool.{true, false}
 use mathlib.Core.List.{List, [], ◌∷◌, ◌++◌}
@@ -11,14 +12,12 @@ use Rattle.lists.specs.Walk.{every, collect, fold}
 use Rattle.numeric.specs.Real.{abs, in_range}
 use Rattle.numeric.specs.Rules.{ruled}
 use Rattle.estimate_rounds.specs.Rules.{row_rules}
-use Rattle.records.specs.Record.{placeable}
 use Rattle.records.specs.Pair.{pairs_of}
 use Rattle.tdcp.specs.Valid.{settings_pass, bad_interval, epoch_rules, interval_rules, few_rules}
 use Rattle.tdcp.specs.Front.{sight_rules, count_rules, pair_rules}
 use Rattle.tdcp.specs.Displacement.{moved_by, displacement_of}
 use Rattle.numeric.specs.declared.refusal.Refusal.TheVariants.{BrokenForm, TooFewPairs, NoCorrection}
 use Rattle.records.specs.declared.record.Carrier.{Carrier}
-use Rattle.tdcp.specs.declared.displacement.Displacement.TheVariants.{Refused, Moved}
 use Rattle.line_form.specs.Split.{split}
 use Rattle.line_form.specs.Field.{decimal_value, plain, is_number, number, is_state, state, hex, is_float, pattern_in}
 use Rattle.line_form.specs.Line.{is_vector, vector_in, settings_form, is_settings, given_in, carrier_form, carrier, line_of}
@@ -156,7 +155,7 @@ unfolding is_text records_form split is_settings settings_form line_of carrier_f
 no-last-line_feed = refl
 
 -- 1 comes before every other number
-broken : displacement_in [] ≡ Refused BrokenForm
+broken : displacement_in [] ≡ Err BrokenForm
 unfolding displacement_in is_text records_form split is_settings settings_form line_of carrier_form carrier is_vector vector_in number is_number plain every decimal_value state is_state pattern_in is_float hex example
 broken = refl
 
@@ -184,17 +183,17 @@ the_carrier = refl
 
 -- the example alone gives R,7
 the-answer : answer_line example ≡ 82 ∷ 44 ∷ 55 ∷ 10 ∷ []
-unfolding answer_line displacement_in text_input given_in no_carriers fold is_text records_form split is_settings settings_form line_of is_vector vector_in number is_number plain every decimal_value pattern_in is_float hex example displacement_of moved_by ruled epoch_rules interval_rules pair_rules sight_rules count_rules few_rules row_rules settings_pass bad_interval placeable abs in_range pairs_of collect digits_text digit_count of_int of_bits neg le lt is_nan
+unfolding answer_line displacement_in text_input given_in no_carriers fold is_text records_form split is_settings settings_form line_of is_vector vector_in number is_number plain every decimal_value pattern_in is_float hex example displacement_of moved_by ruled epoch_rules interval_rules pair_rules sight_rules count_rules few_rules row_rules settings_pass bad_interval abs in_range pairs_of collect digits_text digit_count of_int of_bits neg le lt is_nan
 the-answer = refl
 
 -- ---- answers
 
 -- R,7 and R,12
-seven : answer_text (Refused TooFewPairs) ≡ 82 ∷ 44 ∷ 55 ∷ 10 ∷ []
+seven : answer_text (Err TooFewPairs) ≡ 82 ∷ 44 ∷ 55 ∷ 10 ∷ []
 unfolding digits_text digit_count
 seven = refl
 
-twelve : answer_text (Refused NoCorrection) ≡ 82 ∷ 44 ∷ 49 ∷ 50 ∷ 10 ∷ []
+twelve : answer_text (Err NoCorrection) ≡ 82 ∷ 44 ∷ 49 ∷ 50 ∷ 10 ∷ []
 unfolding digits_text digit_count
 twelve = refl
 
@@ -202,7 +201,7 @@ zeros : List ℕ
 zeros = replicate 16 48
 
 -- A,6,0, and three zero floats
-still : answer_text (Moved (record { delta = record { x = +0; y = +0; z = +0 }; used = 6; screened = 0 }))
+still : answer_text (Ok (record { delta = record { x = +0; y = +0; z = +0 }; used = 6; screened = 0 }))
     ≡ 65 ∷ 44 ∷ 54 ∷ 44 ∷ 48 ∷ 44 ∷ (zeros ++ (44 ∷ [])) ++ ((zeros ++ (44 ∷ [])) ++ (zeros ++ (10 ∷ [])))
 unfolding digits_text digit_count of_bits to_bits zeros
 still = refl

@@ -1,10 +1,11 @@
 -- The output line (docs/SCOPE.md, "The line form and its program"). Definitions only.
+use Rattle.std.specs.Prelude.{Result, Ok, Err}
+use Rattle.numeric.specs.declared.refusal.Refusal.{Refusal}
+use Rattle.tdcp.specs.declared.displacement.Delta.{Delta}
 use Rattle.std.specs.Prelude.{ℕ, zero, suc, ◌+◌, ◌/◌, ◌%◌, cond, List, [], ◌∷◌, ◌++◌, ltb, Float}
 use Rattle.std.specs.Float.{binary64}
 use Rattle.std.specs.Float.Ieee.{to_bits}
 use Rattle.numeric.specs.Refusal.{number_of}
-use Rattle.tdcp.specs.declared.displacement.Displacement.{Displacement}
-use Rattle.tdcp.specs.declared.displacement.Displacement.TheVariants.{Refused, Moved}
 
 -- the digits below 16: 0 to 9 and A to F
 abbrev pub glyph : ℕ → ℕ
@@ -37,8 +38,8 @@ line_text f [] = f ++ (10 ∷ [])
 line_text f (g ∷ fs) = (f ++ (44 ∷ [])) ++ line_text g fs
 
 -- R,number (R is 82) and A,used,screened,dx,dy,dz (A is 65)
-abbrev pub answer_text : Displacement → List ℕ
-answer_text (Refused r) = line_text (82 ∷ []) (decimal_text (number_of r) ∷ [])
-answer_text (Moved d) =
+abbrev pub answer_text : Result Delta Refusal → List ℕ
+answer_text (Err r) = line_text (82 ∷ []) (decimal_text (number_of r) ∷ [])
+answer_text (Ok d) =
     line_text (65 ∷ [])
     (decimal_text d.used ∷ decimal_text d.screened ∷ float_text d.delta.x ∷ float_text d.delta.y ∷ float_text d.delta.z ∷ [])

@@ -1,28 +1,20 @@
 -- What the functions that split, read and print return, in between. No promise to a caller names these. Definitions only.
+use Rattle.std.specs.Prelude.{Result, Ok, Err, Option, Some, None, IfSome, MatchOption, Bool, false}
+use Rattle.numeric.specs.declared.refusal.Refusal.{Refusal}
+use Rattle.tdcp.specs.declared.displacement.Delta.{Delta}
 use Rattle.std.specs.Prelude.{ℕ, ◌+◌, ◌-◌, ◌≤◌, ◌<◌, min, suc, ◌≡◌, true, ◌&&◌, not, cond, List, [], ◌∷◌, ◌++◌, length, get_or, take, drop, ℤ, Float, T, eqb}
 use Rattle.line_form.specs.Split.{field, split}
-use Rattle.line_form.specs.Line.{eleven, is_vector, vector_in, settings_form, given_in, carrier_form, carrier, is_settings}
-use Rattle.line_form.specs.declared.split.Fields.{Fields}
+use Rattle.line_form.specs.Line.{eleven}
 use Rattle.std.specs.Float.Ieee.{is_nan}
 use Rattle.records.specs.Steps.{Laid}
 use Rattle.numeric.specs.declared.vec3.Vec3.{Vec3}
 use Rattle.records.specs.declared.record.Carrier.{Carrier}
 use Rattle.records.specs.declared.record.Epoch.{Epoch}
 use Rattle.tdcp.specs.declared.displacement.Settings.{Settings}
-use Rattle.tdcp.specs.declared.displacement.Displacement.{Displacement}
-use Rattle.line_form.specs.Field.{is_number, number, is_state, state, is_float, pattern_in, float_in}
+use Rattle.line_form.specs.Field.{is_number, number}
 use Rattle.line_form.specs.Text.{is_record, records_form, with_carrier, previous_after, current_after, previous_from, current_from, displacement_in, no_carriers}
-use Rattle.line_form.specs.declared.field.Number.{Number}
-use Rattle.line_form.specs.declared.field.Signed.{Signed}
-use Rattle.line_form.specs.declared.field.Real.{Real}
-use Rattle.line_form.specs.declared.line.Place.{Place}
-use Rattle.line_form.specs.declared.line.Giving.{Giving}
-use Rattle.line_form.specs.declared.line.Carried.{Carried}
 use Rattle.line_form.specs.declared.text.Next.{Next}
-use Rattle.tdcp.specs.declared.displacement.Displacement.TheVariants.{Refused, Moved}
 use Rattle.line_form.specs.Print.{line_text, float_text}
-use Rattle.line_form.specs.declared.line.First.{First}
-use Rattle.line_form.specs.declared.line.First.TheVariants.{Is, Broken as First-as-Broken}
 use Rattle.numeric.specs.declared.refusal.Refusal.TheVariants.{BrokenForm}
 use Rattle.tdcp.specs.Displacement.{general, displacement_of}
 
@@ -43,9 +35,8 @@ pub record Part (line from : List ℕ) (k : ℕ) : Type 0 where
 pub record Parted (line from : List ℕ) : Type 0 where
   pub part : (k : ℕ) → k < 11 → Part line from k
 
-pub record FieldsOf (line : List ℕ) (r : Fields) : Type 0 where
-  pub eleven : r.eleven ≡ eleven line
-  pub parted : r.eleven ≡ true → Parted line r.from
+abbrev pub FieldsOf : List ℕ → Option (List ℕ) → Type 0
+FieldsOf line r = MatchOption r (eleven line ≡ false) (λ from. (eleven line ≡ true) × Parted line from)
 
 -- ---- printing
 
@@ -53,9 +44,9 @@ pub record FieldsOf (line : List ℕ) (r : Fields) : Type 0 where
 abbrev pub Numbers : Vec3 → Type 0
 Numbers v = (T (not (is_nan v.x))) × (T (not (is_nan v.y))) × (T (not (is_nan v.z)))
 
-abbrev pub Printable : Displacement → Type 0
-Printable (Refused r) = Unit {0}
-Printable (Moved d) = Numbers d.delta
+abbrev pub Printable : Result Delta Refusal → Type 0
+Printable (Err r) = Unit {0}
+Printable (Ok d) = Numbers d.delta
 
 -- the last three fields
 abbrev pub vector_text : Vec3 → List ℕ
@@ -73,42 +64,17 @@ pub record PutBytes (d a : List ℕ) (at : ℕ) (bs : List ℕ) (r : ℕ) : Type
 
 -- ---- reading
 
--- the first line
-unfoldable pub first_line : List ℕ → First
-first_line l = cond (is_settings l) (Is (given_in l)) First-as-Broken
+-- what is said, where it has its form
+abbrev pub formed : {A : Type 0} → Bool → A → Option A
+formed form x = cond form (Some x) None
 
 -- the displacement of the epochs that lines make
-unfoldable pub lines_displacement : List (List ℕ) → Float → Vec3 → Settings → Displacement
-lines_displacement ls dt receiver settings = cond (records_form ls) (displacement_of (general (previous_from no_carriers ls) (current_from no_carriers ls) dt receiver settings)) (Refused BrokenForm)
+unfoldable pub lines_displacement : List (List ℕ) → Float → Vec3 → Settings → Result Delta Refusal
+lines_displacement ls dt receiver settings = cond (records_form ls) (displacement_of (general (previous_from no_carriers ls) (current_from no_carriers ls) dt receiver settings)) (Err BrokenForm)
 
-pub record ReadsNumber (limit : ℕ) (s : List ℕ) (r : Number) : Type 0 where
-  pub formed : r.formed ≡ is_number limit s
-  pub value : r.value ≡ number limit s
-  pub below : r.value < limit
-
-pub record ReadsState (s : List ℕ) (r : Signed) : Type 0 where
-  pub formed : r.formed ≡ is_state s
-  pub value : r.value ≡ state s
-
-pub record ReadsPattern (s : List ℕ) (r : Number) : Type 0 where
-  pub formed : r.formed ≡ is_float s
-  pub value : r.value ≡ pattern_in s
-
-pub record ReadsFloat (s : List ℕ) (r : Real) : Type 0 where
-  pub formed : r.formed ≡ is_float s
-  pub value : r.value ≡ float_in s
-
-pub record ReadsPlace (line : List ℕ) (k : ℕ) (r : Place) : Type 0 where
-  pub formed : r.formed ≡ is_vector line k
-  pub value : r.value ≡ vector_in line k
-
-pub record ReadsCarrier (line : List ℕ) (r : Carried) : Type 0 where
-  pub formed : r.formed ≡ carrier_form line
-  pub value : r.value ≡ carrier line
-
-pub record ReadsGiven (line : List ℕ) (r : Giving) : Type 0 where
-  pub formed : r.formed ≡ settings_form line
-  pub value : r.value ≡ given_in line
+pub record ReadsNumber (limit : ℕ) (s : List ℕ) (r : Option ℕ) : Type 0 where
+  pub reads : r ≡ formed (is_number limit s) (number limit s)
+  pub below : IfSome r (λ n. n < limit)
 
 -- the count is that of the epoch e, and the signals, states and floats hold as many of its carriers as they have room for
 pub record HoldsEpoch (e : Epoch) (n : ℕ) (ss : List ℕ) (ts : List ℤ) (fs : List Float) : Type 0 where
@@ -128,11 +94,11 @@ pub record ReadsNext (s : List ℕ) (at : ℕ) (r : Next) : Type 0 where
   pub present : is_record r.line ≡ true → (e : Epoch) → current_from e (split 10 (drop at s)) ≡ current_from (current_after e r.line) (split 10 (drop r.at s))
 
 -- the displacement of the lines s; it can be printed
-pub record LinesDisplace (s : List ℕ) (dt : Float) (receiver : Vec3) (settings : Settings) (r : Displacement) : Type 0 where
+pub record LinesDisplace (s : List ℕ) (dt : Float) (receiver : Vec3) (settings : Settings) (r : Result Delta Refusal) : Type 0 where
   pub answer : r ≡ lines_displacement (split 10 s) dt receiver settings
   pub printable : Printable r
 
 -- the displacement that the text asks for; it can be printed
-pub record Displaces (text : List ℕ) (r : Displacement) : Type 0 where
+pub record Displaces (text : List ℕ) (r : Result Delta Refusal) : Type 0 where
   pub answer : r ≡ displacement_in text
   pub printable : Printable r

@@ -1,4 +1,7 @@
 -- A whole text of the form, and the displacement that it asks for (docs/SCOPE.md, "The line form and its program"). Definitions only.
+use Rattle.std.specs.Prelude.{Result, Err}
+use Rattle.numeric.specs.declared.refusal.Refusal.{Refusal}
+use Rattle.tdcp.specs.declared.displacement.Delta.{Delta}
 use Rattle.std.specs.Prelude.{ℕ, ◌+◌, Bool, true, false, cond, not, ◌&&◌, List, [], ◌∷◌, ltb, length, get_or, drop, set, replicate, pos}
 use Rattle.exact.specs.Float.{+0}
 use Rattle.lists.specs.Walk.{fold}
@@ -6,8 +9,6 @@ use Rattle.numeric.specs.declared.refusal.Refusal.TheVariants.{BrokenForm}
 use Rattle.tdcp.specs.Displacement.{Input, general, displacement_of}
 use Rattle.records.specs.declared.record.Carrier.{Carrier}
 use Rattle.records.specs.declared.record.Epoch.{Epoch}
-use Rattle.tdcp.specs.declared.displacement.Displacement.{Displacement}
-use Rattle.tdcp.specs.declared.displacement.Displacement.TheVariants.{Refused}
 use Rattle.line_form.specs.Split.{split}
 use Rattle.line_form.specs.Line.{is_settings, given_in, line_of}
 use Rattle.line_form.specs.declared.line.Line.{Line}
@@ -84,5 +85,5 @@ unfoldable pub text_input : List ℕ → Input
 text_input s = input_in (get_or (split 10 s) 0 []) (drop 1 (split 10 s))
 
 -- the displacement that the text asks for; 1 comes before every other number
-unfoldable pub displacement_in : List ℕ → Displacement
-displacement_in s = cond (is_text s) (displacement_of (text_input s)) (Refused BrokenForm)
+unfoldable pub displacement_in : List ℕ → Result Delta Refusal
+displacement_in s = cond (is_text s) (displacement_of (text_input s)) (Err BrokenForm)

@@ -1,84 +1,41 @@
 // The fields of a line: numbers in decimal, and floats as sixteen hexadecimal digits.
 ghost use Rattle.std.specs.Prelude.{◌≡◌, true, ◌≤◌, ◌<◌, ◌^◌, pos, neg_ℤ};
-ghost use Rattle.line_form.specs.Field.{plain, is_hex_digit, hex_value};
-ghost use Rattle.line_form.specs.Steps.{ReadsNumber, ReadsState, ReadsPattern, ReadsFloat};
+ghost use Rattle.line_form.specs.Field.{plain, is_hex_digit, hex_value, is_state, state, is_float, pattern_in, float_in};
+ghost use Rattle.line_form.specs.Steps.{formed, ReadsNumber};
 
 use numeric::order::float;
-
-// A field's value, and whether the field has its form; the value is 0 where it has not.
-#[derive(Clone, Copy)]
-pub(crate) struct Number {
-    pub formed: bool,
-    pub value: u64,
-}
-
-#[derive(Clone, Copy)]
-pub(crate) struct Signed {
-    pub formed: bool,
-    pub value: i32,
-}
-
-#[derive(Clone, Copy)]
-pub(crate) struct Real {
-    pub formed: bool,
-    pub value: f64,
-}
 
 // Checks that a field is not empty and has no leading zero.
 fn is_plain(s: &[u8]) -> bool
     ensures { result ≡ plain s.now }
 {
-    let n = s.len();
-    if n == 0 {
-        return false;
+    match s {
+        [] => false,
+        [_] => true,
+        [first, ..] => *first != b'0',
     }
-    if n == 1 {
-        return true;
-    }
-    s[0] != 48
 }
 
 // Reads a decimal number below the limit.
-pub(crate) fn number_of(s: &[u8], limit: u64) -> Number
+pub(crate) fn number_of(s: &[u8], limit: u64) -> Option<u64>
     requires limit_nonzero { 0 < limit }
     requires limit_bound { limit ≤ 2 ^ 32 }
     ensures { ReadsNumber limit s.now result }
 {
     if !is_plain(s) {
-        return Number {
-            formed: false,
-            value: 0,
-        };
+        return None;
     }
     let mut n: u64 = 0;
-    let mut i: usize = 0;
-    while i < s.len() {
-        let b = s[i];
-        if b < 48 {
-            return Number {
-                formed: false,
-                value: 0,
-            };
+    for &b in s {
+        if !b.is_ascii_digit() {
+            return None;
         }
-        if b > 57 {
-            return Number {
-                formed: false,
-                value: 0,
-            };
-        }
-        n = n * 10 + ((b - 48) as u64);
+        n = n * 10 + ((b - b'0') as u64);
         if n >= limit {
-            return Number {
-                formed: false,
-                value: 0,
-            };
+            return None;
         }
-        i += 1;
     }
-    Number {
-        formed: true,
-        value: n,
-    }
+    Some(n)
 }
 
 // Returns -n.
@@ -86,91 +43,66 @@ fn negated(n: u64) -> i32
     requires { n ≤ 2 ^ 31 }
     ensures { result ≡ neg_ℤ (pos n) }
 {
-    if n == 0 {
-        return 0;
-    }
-    -1 - ((n - 1) as i32)
+    (-(n as i64)) as i32
 }
 
 // Reads a signed number of 32 bits.
-pub(crate) fn state_of(s: &[u8]) -> Signed
-    ensures { ReadsState s.now result }
+#[tactic(auto, unfolding(crate::specs::Field::is_state, crate::specs::Field::state))]
+pub(crate) fn state_of(s: &[u8]) -> Option<i32>
+    ensures { result ≡ formed (is_state s.now) (state s.now) }
 {
     if s.len() == 0 {
-        return Signed {
-            formed: false,
-            value: 0,
-        };
+        return None;
     }
-    if s[0] == 45 {
-        let n = number_of(&s[1..], 2147483649);
-        let z = negated(n.value);
-        return Signed {
-            formed: n.formed & (n.value != 0),
-            value: z,
-        };
+    if s[0] == b'-' {
+        let n = number_of(&s[1..], 2147483649)?;
+        if n == 0 {
+            return None;
+        }
+        return Some(negated(n));
     }
-    let n = number_of(s, 2147483648);
-    Signed {
-        formed: n.formed,
-        value: n.value as i32,
-    }
+    let n = number_of(s, 2147483648)?;
+    Some(n as i32)
 }
 
 fn is_hex_digit(b: u8) -> bool
     ensures { result ≡ is_hex_digit b }
 {
-    ((48 <= b) & (b <= 57)) | ((65 <= b) & (b <= 70))
+    ((b'0' <= b) & (b <= b'9')) | ((b'A' <= b) & (b <= b'F'))
 }
 
 fn hex_value(b: u8) -> u64
     requires { is_hex_digit b ≡ true }
     ensures { result ≡ hex_value b }
 {
-    if b <= 57 {
-        (b - 48) as u64
+    if b <= b'9' {
+        (b - b'0') as u64
     } else {
-        (b - 55) as u64
+        (b - b'A' + 10) as u64
     }
 }
 
 // Reads sixteen hexadecimal digits.
-pub(crate) fn pattern_of(s: &[u8]) -> Number
-    ensures { ReadsPattern s.now result }
+pub(crate) fn pattern_of(s: &[u8]) -> Option<u64>
+    ensures { result ≡ formed (is_float s.now) (pattern_in s.now) }
 {
     if s.len() != 16 {
-        return Number {
-            formed: false,
-            value: 0,
-        };
+        return None;
     }
     let mut n: u64 = 0;
-    let mut i: usize = 0;
-    while i < s.len() {
-        let b = s[i];
+    for &b in s {
         if !is_hex_digit(b) {
-            return Number {
-                formed: false,
-                value: 0,
-            };
+            return None;
         }
         n = n * 16 + hex_value(b);
-        i += 1;
     }
-    Number {
-        formed: true,
-        value: n,
-    }
+    Some(n)
 }
 
 // Reads a float by its pattern.
-pub(crate) fn float_of(s: &[u8]) -> Real
-    ensures { ReadsFloat s.now result }
+pub(crate) fn float_of(s: &[u8]) -> Option<f64>
+    ensures { result ≡ formed (is_float s.now) (float_in s.now) }
 {
-    let p = pattern_of(s);
-    let x = float(p.value);
-    Real {
-        formed: p.formed,
-        value: x,
-    }
+    let p = pattern_of(s)?;
+    Some(float(p))
 }

@@ -1,7 +1,7 @@
 // One line of the form.
 ghost use Rattle.std.specs.Prelude.{◌≡◌, ◌≤◌, length};
-ghost use Rattle.line_form.specs.Line.{letter, line_of};
-ghost use Rattle.line_form.specs.Steps.{first_line, Parted, ReadsPlace, ReadsCarrier, ReadsGiven};
+ghost use Rattle.line_form.specs.Line.{letter, is_vector, vector_in, carrier_form, carrier, settings_form, is_settings, given_in, line_of};
+ghost use Rattle.line_form.specs.Steps.{formed, Parted};
 
 use crate::field::{float_of, number_of, state_of};
 use crate::split::{field_at, fields_of};
@@ -9,36 +9,12 @@ use numeric::vec3::Vec3;
 use records::record::Carrier;
 use tdcp::displacement::Settings;
 
-#[derive(Clone, Copy)]
-pub(crate) struct Place {
-    pub formed: bool,
-    pub value: Vec3,
-}
-
-#[derive(Clone, Copy)]
-pub(crate) struct Carried {
-    pub formed: bool,
-    pub value: Carrier,
-}
-
 // The values of the first line.
 #[derive(Clone, Copy)]
 pub(crate) struct Given {
     pub dt: f64,
     pub receiver: Vec3,
     pub settings: Settings,
-}
-
-#[derive(Clone, Copy)]
-pub(crate) struct Giving {
-    pub formed: bool,
-    pub value: Given,
-}
-
-#[derive(Clone, Copy)]
-pub(crate) enum First {
-    Is(Given),
-    Broken,
 }
 
 // A line after the first.
@@ -57,140 +33,101 @@ fn letter_of(s: &[u8]) -> u8
 }
 
 // Reads three floats, from field k on.
-fn place_of(line: &[u8], from: [usize; 12], k: usize) -> Place
+#[tactic(auto, unfolding(crate::specs::Line::is_vector, crate::specs::Line::vector_in))]
+fn place_of(line: &[u8], from: [usize; 12], k: usize) -> Option<Vec3>
     requires parted { Parted line.now from }
     requires k_bound { k ≤ 8 }
-    ensures { ReadsPlace line.now k result }
+    ensures { result ≡ formed (is_vector line.now k) (vector_in line.now k) }
 {
-    let x = float_of(field_at(line, from, k));
-    let y = float_of(field_at(line, from, k + 1));
-    let z = float_of(field_at(line, from, k + 2));
-    Place {
-        formed: x.formed & y.formed & z.formed,
-        value: Vec3 {
-            x: x.value,
-            y: y.value,
-            z: z.value,
-        },
-    }
+    let x = float_of(field_at(line, from, k))?;
+    let y = float_of(field_at(line, from, k + 1))?;
+    let z = float_of(field_at(line, from, k + 2))?;
+    Some(Vec3 { x, y, z })
 }
 
 // Reads the ten fields of a carrier.
-fn carrier_of(line: &[u8], from: [usize; 12]) -> Carried
+#[tactic(auto, unfolding(crate::specs::Line::carrier_form, crate::specs::Line::carrier))]
+fn carrier_of(line: &[u8], from: [usize; 12]) -> Option<Carrier>
     requires { Parted line.now from }
-    ensures { ReadsCarrier line.now result }
+    ensures { result ≡ formed (carrier_form line.now) (carrier line.now) }
 {
-    let constellation = number_of(field_at(line, from, 1), 256);
-    let svid = number_of(field_at(line, from, 2), 65536);
-    let band = number_of(field_at(line, from, 3), 4294967296);
-    let adr = float_of(field_at(line, from, 4));
-    let state = state_of(field_at(line, from, 5));
-    let satellite = place_of(line, from, 6);
-    let elevation = float_of(field_at(line, from, 9));
-    let rate = float_of(field_at(line, from, 10));
-    let position = satellite.value;
-    Carried {
-        formed: constellation.formed
-            & svid.formed
-            & band.formed
-            & adr.formed
-            & state.formed
-            & satellite.formed
-            & elevation.formed
-            & rate.formed,
-        value: Carrier {
-            constellation: constellation.value as u8,
-            svid: svid.value as u16,
-            band: band.value as u32,
-            adr: adr.value,
-            state: state.value,
-            satellite: position,
-            elevation: elevation.value,
-            rate: rate.value,
-        },
-    }
+    let constellation = number_of(field_at(line, from, 1), 256)?;
+    let svid = number_of(field_at(line, from, 2), 65536)?;
+    let band = number_of(field_at(line, from, 3), 4294967296)?;
+    let adr = float_of(field_at(line, from, 4))?;
+    let state = state_of(field_at(line, from, 5))?;
+    let satellite = place_of(line, from, 6)?;
+    let elevation = float_of(field_at(line, from, 9))?;
+    let rate = float_of(field_at(line, from, 10))?;
+    Some(Carrier {
+        constellation: constellation as u8,
+        svid: svid as u16,
+        band: band as u32,
+        adr,
+        state,
+        satellite,
+        elevation,
+        rate,
+    })
 }
 
+#[tactic(auto, unfolding(crate::specs::Line::line_of))]
 pub(crate) fn line_of(line: &[u8]) -> Line
     requires { length line.now ≤ 32768 }
     ensures { result ≡ line_of line.now }
 {
-    let fields = fields_of(line);
-    if !fields.eleven {
+    let Some(from) = fields_of(line) else {
         return Line::Broken;
-    }
-    let from = fields.from;
-    let tag = letter_of(field_at(line, from, 0));
-    let read = carrier_of(line, from);
-    if !read.formed {
+    };
+    let Some(carrier) = carrier_of(line, from) else {
         return Line::Broken;
+    };
+    match letter_of(field_at(line, from, 0)) {
+        b'P' => Line::Previous(carrier),
+        b'C' => Line::Current(carrier),
+        _ => Line::Broken,
     }
-    let carrier = read.value;
-    if tag == 80 {
-        return Line::Previous(carrier);
-    }
-    if tag == 67 {
-        return Line::Current(carrier);
-    }
-    Line::Broken
 }
 
 // Reads the ten fields of the first line.
-fn given_of(line: &[u8], from: [usize; 12]) -> Giving
+#[tactic(auto, unfolding(crate::specs::Line::settings_form, crate::specs::Line::given_in))]
+fn given_of(line: &[u8], from: [usize; 12]) -> Option<Given>
     requires { Parted line.now from }
-    ensures { ReadsGiven line.now result }
+    ensures { result ≡ formed (settings_form line.now) (given_in line.now) }
 {
-    let dt = float_of(field_at(line, from, 1));
-    let receiver = place_of(line, from, 2);
-    let screen = float_of(field_at(line, from, 5));
-    let sigma_a = float_of(field_at(line, from, 6));
-    let sigma_b = float_of(field_at(line, from, 7));
-    let huber = float_of(field_at(line, from, 8));
-    let mask = float_of(field_at(line, from, 9));
-    let rounds = number_of(field_at(line, from, 10), 4294967296);
-    let position = receiver.value;
-    Giving {
-        formed: dt.formed
-            & receiver.formed
-            & screen.formed
-            & sigma_a.formed
-            & sigma_b.formed
-            & huber.formed
-            & mask.formed
-            & rounds.formed,
-        value: Given {
-            dt: dt.value,
-            receiver: position,
-            settings: Settings {
-                screen: screen.value,
-                sigma_a: sigma_a.value,
-                sigma_b: sigma_b.value,
-                huber: huber.value,
-                mask: mask.value,
-                rounds: rounds.value as u32,
-                agreement: 0.0,
-            },
-        },
-    }
+    let dt = float_of(field_at(line, from, 1))?;
+    let receiver = place_of(line, from, 2)?;
+    let screen = float_of(field_at(line, from, 5))?;
+    let sigma_a = float_of(field_at(line, from, 6))?;
+    let sigma_b = float_of(field_at(line, from, 7))?;
+    let huber = float_of(field_at(line, from, 8))?;
+    let mask = float_of(field_at(line, from, 9))?;
+    let rounds = number_of(field_at(line, from, 10), 4294967296)?;
+    let settings = Settings {
+        screen,
+        sigma_a,
+        sigma_b,
+        huber,
+        mask,
+        rounds: rounds as u32,
+        agreement: 0.0,
+    };
+    Some(Given {
+        dt,
+        receiver,
+        settings,
+    })
 }
 
-pub(crate) fn first_of(line: &[u8]) -> First
+// Reads the first line.
+#[tactic(auto, unfolding(crate::specs::Line::is_settings))]
+pub(crate) fn first_of(line: &[u8]) -> Option<Given>
     requires { length line.now ≤ 32768 }
-    ensures { result ≡ first_line line.now }
+    ensures { result ≡ formed (is_settings line.now) (given_in line.now) }
 {
-    let fields = fields_of(line);
-    if !fields.eleven {
-        return First::Broken;
+    let from = fields_of(line)?;
+    if letter_of(field_at(line, from, 0)) != b'S' {
+        return None;
     }
-    let from = fields.from;
-    let tag = letter_of(field_at(line, from, 0));
-    if tag != 83 {
-        return First::Broken;
-    }
-    let read = given_of(line, from);
-    if !read.formed {
-        return First::Broken;
-    }
-    let given = read.value;
-    First::Is(given)
+    given_of(line, from)
 }

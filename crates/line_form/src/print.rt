@@ -3,14 +3,19 @@ ghost use Rattle.std.specs.Prelude.{◌≡◌, [], ◌∷◌, ◌++◌, ◌+◌,
 ghost use Rattle.line_form.specs.Print.{glyph, digits_text, digit_count, decimal_text, hex_text, answer_text};
 ghost use Rattle.line_form.specs.Steps.{Numbers, Printable, vector_text, overwritten, PutBytes};
 
+use numeric::refusal::Refusal;
 use numeric::vec3::Vec3;
-use tdcp::displacement::Displacement;
+use tdcp::displacement::Delta;
 
 fn glyph_of(d: u64) -> u8
     requires { d < 16 }
     ensures { result ≡ glyph d }
 {
-    if d < 10 { 48 + d as u8 } else { 55 + d as u8 }
+    if d < 10 {
+        b'0' + d as u8
+    } else {
+        b'A' - 10 + d as u8
+    }
 }
 
 // Writes the last k digits of n.
@@ -73,7 +78,7 @@ fn put_letter(out: &mut [u8], b: u8) -> usize
     ensures upper_bound { result ≤ 2 }
 {
     out[0] = b;
-    out[1] = 44;
+    out[1] = b',';
     2
 }
 
@@ -83,28 +88,28 @@ fn put_vector(out: &mut [u8], at: usize, v: Vec3) -> usize
     requires numbers { Numbers v }
     ensures { PutBytes out.old out.new at (vector_text v) result }
 {
-    let a = put_hex(out, at, f64::to_bits(v.x), 44);
-    let b = put_hex(out, a, f64::to_bits(v.y), 44);
-    put_hex(out, b, f64::to_bits(v.z), 10)
+    let a = put_hex(out, at, f64::to_bits(v.x), b',');
+    let b = put_hex(out, a, f64::to_bits(v.y), b',');
+    put_hex(out, b, f64::to_bits(v.z), b'\n')
 }
 
 // Writes the whole line, and returns its length.
-pub(crate) fn print_to(out: &mut [u8], d: Displacement) -> usize
+pub(crate) fn print_to(out: &mut [u8], d: Result<Delta, Refusal>) -> usize
     requires in_bounds { 128 ≤ length out.old }
     requires printable { Printable d }
     ensures { PutBytes out.old out.new 0 (answer_text d) result }
 {
     match d {
-        Displacement::Refused(r) => {
+        Err(r) => {
             let number = r.number();
-            let a = put_letter(out, 82);
-            put_decimal(out, a, number as u64, 10)
+            let a = put_letter(out, b'R');
+            put_decimal(out, a, number as u64, b'\n')
         }
-        Displacement::Moved(m) => {
+        Ok(m) => {
             let v = m.delta;
-            let a = put_letter(out, 65);
-            let b = put_decimal(out, a, m.used as u64, 44);
-            let c = put_decimal(out, b, m.screened as u64, 44);
+            let a = put_letter(out, b'A');
+            let b = put_decimal(out, a, m.used as u64, b',');
+            let c = put_decimal(out, b, m.screened as u64, b',');
             put_vector(out, c, v)
         }
     }

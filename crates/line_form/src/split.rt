@@ -8,48 +8,35 @@ pub(crate) fn find(s: &[u8], at: usize, c: u8) -> usize
     requires { at ≤ length s.now }
     ensures { result ≡ at + count_before c (drop at s.now) }
 {
-    let mut i = at;
-    while i < s.len() {
+    for i in at..s.len() {
         if s[i] == c {
             return i;
         }
-        i += 1;
     }
-    i
+    s.len()
 }
 
-// Whether a line has eleven fields, and where each begins; the twelfth place is past the line's end.
-#[derive(Clone, Copy)]
-pub(crate) struct Fields {
-    pub eleven: bool,
-    pub from: [usize; 12],
-}
-
-pub(crate) fn fields_of(line: &[u8]) -> Fields
+// Returns where each field of a line begins, if it has eleven; the twelfth place is past the line's end.
+pub(crate) fn fields_of(line: &[u8]) -> Option<[usize; 12]>
     requires { length line.now ≤ 32768 }
     ensures { FieldsOf line.now result }
 {
     let mut from = [0usize; 12];
     let mut at: usize = 0;
-    let mut k: usize = 0;
-    while k < 10 {
-        let e = find(line, at, 44);
+    for k in 0..10 {
+        let e = find(line, at, b',');
         if e == line.len() {
-            return Fields {
-                eleven: false,
-                from: from,
-            };
+            return None;
         }
         at = e + 1;
-        k += 1;
-        from[k] = at;
+        from[k + 1] = at;
     }
-    let e = find(line, at, 44);
+    let e = find(line, at, b',');
+    if e != line.len() {
+        return None;
+    }
     from[11] = e + 1;
-    Fields {
-        eleven: e == line.len(),
-        from: from,
-    }
+    Some(from)
 }
 
 // Returns field k of a line of eleven fields.

@@ -2,14 +2,14 @@
 ghost use Rattle.std.specs.Prelude.{◌≡◌, ◌<◌, ◌≤◌, length, drop};
 ghost use Rattle.line_form.specs.Steps.{Displaces, LinesDisplace, Keeps, ReadsNext};
 
-use crate::line::{First, Line, first_of, line_of};
+use crate::line::{Line, first_of, line_of};
 use crate::split::find;
 use numeric::refusal::Refusal;
 use numeric::vec3::Vec3;
-use records::carriers::put_carrier;
+use records::arrays::CarrierArrays;
 use records::pair::Profile;
 use records::record::Carrier;
-use tdcp::displacement::{Displacement, Interval, Settings, displaced, plain};
+use tdcp::displacement::{Delta, Interval, Settings, displaced};
 
 // A line, and the place after its LF; a last line without one is broken.
 #[derive(Clone, Copy)]
@@ -24,7 +24,7 @@ fn next_line(text: &[u8], at: usize) -> Next
     ensures { ReadsNext text.now at result }
 {
     let n = text.len();
-    let e = find(text, at, 10);
+    let e = find(text, at, b'\n');
     if e == n {
         return Next {
             line: Line::Broken,
@@ -39,19 +39,12 @@ fn next_line(text: &[u8], at: usize) -> Next
 }
 
 // Adds a carrier to the n of an epoch and returns the new count. Carriers past the 64th are counted but not written.
-fn keep(
-    c: Carrier,
-    n: usize,
-    signals: &mut [u64; 64],
-    states: &mut [i32; 64],
-    floats: &mut [f64; 384],
-) -> usize
-    requires { (n ≤ 32768) × (length signals.old ≡ 64) × (length states.old ≡ 64) × (length floats.old ≡ 384) }
-    ensures { Keeps c n result signals.old states.old floats.old
-        signals.new states.new floats.new }
+fn keep(c: Carrier, n: usize, arrays: &mut CarrierArrays) -> usize
+    requires { n ≤ 32768 }
+    ensures { Keeps c n result arrays.old.signals arrays.old.states arrays.old.floats arrays.new.signals arrays.new.states arrays.new.floats }
 {
     if n < 64 {
-        put_carrier(c, n, signals, states, floats);
+        arrays.put(n, c);
     }
     n + 1
 }
@@ -63,68 +56,53 @@ fn displacement_after(
     dt: f64,
     receiver: Vec3,
     settings: Settings,
-) -> Displacement
+) -> Result<Delta, Refusal>
     requires { (from ≤ length text.now) × (length text.now ≤ 32768) }
     ensures { LinesDisplace (drop from text.now) dt receiver settings result }
 {
-    let mut then_signals = [0u64; 64];
-    let mut then_states = [0i32; 64];
-    let mut then_floats = [0.0; 384];
-    let mut now_signals = [0u64; 64];
-    let mut now_states = [0i32; 64];
-    let mut now_floats = [0.0; 384];
+    let mut then = CarrierArrays::new();
+    let mut now = CarrierArrays::new();
     let mut m: usize = 0;
     let mut n: usize = 0;
     let mut at = from;
     while at < text.len() {
         let next = next_line(text, at);
-        let line = next.line;
         at = next.at;
-        match line {
-            Line::Previous(c) => {
-                m = keep(c, m, &mut then_signals, &mut then_states, &mut then_floats);
-            }
-            Line::Current(c) => {
-                n = keep(c, n, &mut now_signals, &mut now_states, &mut now_floats);
-            }
-            Line::Broken => return Displacement::Refused(Refusal::BrokenForm),
+        match next.line {
+            Line::Previous(c) => m = keep(c, m, &mut then),
+            Line::Current(c) => n = keep(c, n, &mut now),
+            Line::Broken => return Err(Refusal::BrokenForm),
         }
     }
     if (64 < m) | (64 < n) {
-        return Displacement::Refused(Refusal::TooMany);
+        return Err(Refusal::TooMany);
     }
-    let answer = displaced(
-        &then_signals[..m],
-        &then_states,
-        &then_floats,
-        &now_signals[..n],
-        &now_states,
-        &now_floats,
+    displaced(
+        then.first(m),
+        now.first(n),
         Interval::Seconds(dt),
         receiver,
         settings,
         Profile::General,
         false,
-    );
-    plain(answer)
+    )
+    .map(|d| d.moved)
 }
 
 // Returns the displacement that the text asks for.
-pub(crate) fn displacement_in(text: &[u8]) -> Displacement
+pub(crate) fn displacement_in(text: &[u8]) -> Result<Delta, Refusal>
     ensures { Displaces text.now result }
 {
     let n = text.len();
     if n > 32768 {
-        return Displacement::Refused(Refusal::BrokenForm);
+        return Err(Refusal::BrokenForm);
     }
-    let end = find(text, 0, 10);
+    let end = find(text, 0, b'\n');
     if end == n {
-        return Displacement::Refused(Refusal::BrokenForm);
+        return Err(Refusal::BrokenForm);
     }
-    let First::Is(given) = first_of(&text[..end]) else {
-        return Displacement::Refused(Refusal::BrokenForm);
+    let Some(given) = first_of(&text[..end]) else {
+        return Err(Refusal::BrokenForm);
     };
-    let receiver = given.receiver;
-    let settings = given.settings;
-    displacement_after(text, end + 1, given.dt, receiver, settings)
+    displacement_after(text, end + 1, given.dt, given.receiver, given.settings)
 }

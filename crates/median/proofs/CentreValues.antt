@@ -1,4 +1,5 @@
 -- The marked trials of the centre (docs/SCOPE.md, "Trials at the edges"), by computation. Assumes nothing.
+use Rattle.std.specs.Prelude.{Ok}
 use Prim.Native.Nat.{ℕ}
 use mathlib.Core.Path.{◌≡◌, refl}
 use mathlib.Core.List.{List, [], ◌∷◌}
@@ -9,14 +10,13 @@ use Rattle.numeric.specs.Order.{total_order, pattern_of}
 use Rattle.numeric.specs.Real.{abs}
 use Rattle.median.specs.Sorted.{insert_by, sorted_by, median_of}
 use Rattle.median.specs.Centre.{centre_of, deviation_of, deviations_of, scale_of, centre_and_scale_of, centre_scale_of}
-use Rattle.median.specs.declared.centre.Centre.TheVariants.{Of}
 
 -- 3, 1, 2, 4
 abbrev pub residuals : List ℕ
 residuals = 0x4008_0000_0000_0000 ∷ 0x3FF0_0000_0000_0000 ∷ 0x4000_0000_0000_0000 ∷ 0x4010_0000_0000_0000 ∷ []
 
 -- (m4) empty gives (0, 1)
-pub m4 : centre_scale_of [] ≡ Of (record { centre = +0; scale = 1·0 })
+pub m4 : centre_scale_of [] ≡ Ok (record { centre = +0; scale = 1·0 })
 unfolding centre_scale_of centre_and_scale_of
 m4 = refl
 

@@ -1,5 +1,8 @@
 -- The centre of residuals and their scale (docs/SCOPE.md, "Centre"; `centre_scale` of robust.rs). Definitions only.
 -- A residual is a pattern, since total_order tells NaNs of either sign apart.
+use Rattle.numeric.specs.Refusal.{answer_number}
+use Rattle.std.specs.Prelude.{Result, Ok, Err}
+use Rattle.numeric.specs.declared.refusal.Refusal.{Refusal}
 use Rattle.std.specs.Prelude.{ℕ, ◌≡◌, cond, List, [], ◌∷◌, map, length, ltb, Float}
 use Rattle.exact.specs.Float.{◌⊕◌, ◌⊖◌, ◌⊗◌, +0, 1·0, bits, decimal}
 use Rattle.numeric.specs.Order.{pattern_of}
@@ -7,8 +10,6 @@ use Rattle.numeric.specs.Real.{abs}
 use Rattle.numeric.specs.Refusal.{number_of}
 use Rattle.numeric.specs.declared.refusal.Refusal.TheVariants.{TooMany}
 use Rattle.median.specs.Sorted.{median_of}
-use Rattle.median.specs.declared.centre.Centre.{Centre}
-use Rattle.median.specs.declared.centre.Centre.TheVariants.{Refused, Of}
 use Rattle.median.specs.declared.centre.CentreScale.{CentreScale}
 
 -- the residual at place len/2
@@ -41,21 +42,16 @@ centre_and_scale_of [] = record { centre = +0; scale = 1·0 }
 centre_and_scale_of (x ∷ xs) = record { centre = centre_of (x ∷ xs); scale = scale_of (x ∷ xs) }
 
 -- refused by 2 if there are more than 64 residuals
-unfoldable pub centre_scale_of : List ℕ → Centre
-centre_scale_of xs = cond (ltb 64 (length xs)) (Refused TooMany) (Of (centre_and_scale_of xs))
-
--- the number of an answer: 0, or the refusal's
-abbrev pub centre_number : Centre → ℕ
-centre_number (Refused r) = number_of r
-centre_number (Of c) = 0
+unfoldable pub centre_scale_of : List ℕ → Result CentreScale Refusal
+centre_scale_of xs = cond (ltb 64 (length xs)) (Err TooMany) (Ok (centre_and_scale_of xs))
 
 -- its values: the centre and the scale
-abbrev pub centre_floats : Centre → List Float
-centre_floats (Refused r) = []
-centre_floats (Of c) = c.centre ∷ c.scale ∷ []
+abbrev pub centre_floats : Result CentreScale Refusal → List Float
+centre_floats (Err r) = []
+centre_floats (Ok c) = c.centre ∷ c.scale ∷ []
 
 -- the answer, its number and its values are those of the definition, for every list of residuals
-pub record Centred (xs : List ℕ) (r : Centre) : Type 0 where
+pub record Centred (xs : List ℕ) (r : Result CentreScale Refusal) : Type 0 where
   pub answer : r ≡ centre_scale_of xs
-  pub number_is : centre_number r ≡ centre_number (centre_scale_of xs)
+  pub number_is : answer_number r ≡ answer_number (centre_scale_of xs)
   pub floats-are : centre_floats r ≡ centre_floats (centre_scale_of xs)

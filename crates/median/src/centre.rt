@@ -1,7 +1,8 @@
 // The centre of residuals and their scale.
+ghost use Rattle.numeric.specs.Refusal.{answer_number};
 ghost use Rattle.std.specs.Prelude.{◌≡◌, length};
 ghost use Rattle.median.specs.Steps.{Front, Room};
-ghost use Rattle.median.specs.Centre.{deviations_of, centre_number, Centred};
+ghost use Rattle.median.specs.Centre.{deviations_of, Centred};
 
 use crate::median::{middle, of_like_sign};
 use numeric::order::{float, pattern};
@@ -13,25 +14,6 @@ use numeric::refusal::Refusal;
 pub struct CentreScale {
     pub centre: f64,
     pub scale: f64,
-}
-
-// The centre and the scale, or the refusal.
-#[derive(Clone, Copy)]
-pub enum Centre {
-    Refused(Refusal),
-    Of(CentreScale),
-}
-
-impl Centre {
-    // Returns the number of the answer: 0, or the refusal's.
-    pub fn number(self) -> u8
-        ensures { result ≡ centre_number self }
-    {
-        match self {
-            Centre::Refused(r) => r.number(),
-            Centre::Of(_) => 0,
-        }
-    }
 }
 
 // Writes the absolute deviations of the residuals from the centre to the front of k. Their signs are clear.
@@ -48,15 +30,15 @@ fn deviations(residuals: &[u64], centre: f64, k: &mut [u64; 64])
 }
 
 // Returns the residual at place len/2 in order, and as scale 1.4826 times the deviation at that place plus 1e-6. Refuses more than 64 residuals by 2.
-pub fn centre_scale(residuals: &[u64]) -> Centre
+pub fn centre_scale(residuals: &[u64]) -> Result<CentreScale, Refusal>
     ensures { Centred residuals.now result }
 {
     let n = residuals.len();
     if 64 < n {
-        return Centre::Refused(Refusal::TooMany);
+        return Err(Refusal::TooMany);
     }
     if n == 0 {
-        return Centre::Of(CentreScale {
+        return Ok(CentreScale {
             centre: 0.0,
             scale: 1.0,
         });
@@ -65,7 +47,7 @@ pub fn centre_scale(residuals: &[u64]) -> Centre
     let centre = float(middle(residuals, &mut k));
     deviations(residuals, centre, &mut k);
     let deviation = float(of_like_sign(&mut k, n, n / 2));
-    Centre::Of(CentreScale {
+    Ok(CentreScale {
         centre: centre,
         scale: 1.4826 * deviation + 1e-6,
     })

@@ -6,20 +6,6 @@ ghost use Rattle.lists.specs.Memory.{lent};
 ghost use Rattle.median.specs.Sorted.{median_of, occurrences};
 ghost use Rattle.median.specs.Steps.{pattern_at, number_at, lows, highs, of_sign, Front, Room, Among, AmongFour, FoundBy, OneTo64};
 
-// Returns the lesser of a and b.
-fn lesser(a: u64, b: u64) -> u64
-    ensures { result ≡ min a b }
-{
-    if a < b { a } else { b }
-}
-
-// Returns the greater of a and b.
-fn greater(a: u64, b: u64) -> u64
-    ensures { result ≡ max a b }
-{
-    if a < b { b } else { a }
-}
-
 // Returns one of the first n numbers of k: the median of the first, the middle and the last of them.
 fn pivot(k: &[u64; 64], n: usize) -> u64
     requires { (0 < n) × (n ≤ 64) × (length k.now ≡ 64) }
@@ -28,9 +14,9 @@ fn pivot(k: &[u64; 64], n: usize) -> u64
     let a = k[0];
     let b = k[n / 2];
     let c = k[n - 1];
-    let low = lesser(a, b);
-    let high = greater(a, b);
-    greater(low, lesser(high, c))
+    let low = a.min(b);
+    let high = a.max(b);
+    low.max(high.min(c))
 }
 
 // Counts those of the first n numbers of k that are below p.
@@ -63,7 +49,8 @@ fn keep_low(k: &mut [u64; 64], n: usize, p: u64) -> usize
     w
 }
 
-// Moves those of the first n numbers of k that are above p to the front, and returns their count.
+// Moves those of the first n numbers of k that are above p to the front, and returns their count. Apart from `keep_low`: the contract of one function over a
+// closure would speak of the closure's calls, where these speak of `lows p` and `highs p`.
 fn keep_high(k: &mut [u64; 64], n: usize, p: u64) -> usize
     requires { Room n k.old }
     ensures { Front (highs p (take n k.old)) result k.new }
@@ -100,14 +87,12 @@ fn of_lowest(k: &[u64; 64], n: usize, m: usize) -> u64
     let mut b = 0x7FFF_FFFF_FFFF_FFFFu64;
     let mut c = 0x7FFF_FFFF_FFFF_FFFFu64;
     let mut d = 0x7FFF_FFFF_FFFF_FFFFu64;
-    let mut j = n;
-    while 0 < j {
-        j -= 1;
-        let x = k[j];
-        d = greater(c, lesser(d, x));
-        c = greater(b, lesser(c, x));
-        b = greater(a, lesser(b, x));
-        a = lesser(a, x);
+    for i in 0..n {
+        let x = k[n - i - 1];
+        d = c.max(d.min(x));
+        c = b.max(c.min(x));
+        b = a.max(b.min(x));
+        a = a.min(x);
     }
     one_of(a, b, c, d, m)
 }
@@ -121,14 +106,12 @@ fn of_highest(k: &[u64; 64], n: usize, m: usize) -> u64
     let mut b = 0u64;
     let mut c = 0u64;
     let mut d = 0u64;
-    let mut j = n;
-    while 0 < j {
-        j -= 1;
-        let x = k[j];
-        d = greater(d, lesser(c, x));
-        c = greater(c, lesser(b, x));
-        b = greater(b, lesser(a, x));
-        a = greater(a, x);
+    for i in 0..n {
+        let x = k[n - i - 1];
+        d = d.max(c.min(x));
+        c = c.max(b.min(x));
+        b = b.max(a.min(x));
+        a = a.max(x);
     }
     one_of(a, b, c, d, m)
 }

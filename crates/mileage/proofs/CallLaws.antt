@@ -1,4 +1,5 @@
 -- One call: what it finds of an epoch, what it adds, and the distance in 64 bits. Assumes nothing.
+use Rattle.std.specs.Prelude.{Ok, Err}
 use mathlib.Core.Path.{◌≡◌, refl, sym, ap, ap₂, ◌∙◌}
 use Prim.Native.Nat.{ℕ, ◌+◌, ◌-◌, ◌*◌, ◌/◌, ◌%◌, ◌^◌, ◌≤◌, ◌<◌}
 use native.Mathlib.Nat.{mul-le-mul, mul-le-mul_right, add-mul-div_right, div-add-mod', div-le_of_le-mul, div-lt_iff_lt-mul, le-div_iff_mul-le, mod-lt, add-mul, mul_assoc, mul_comm}
@@ -11,21 +12,15 @@ use borrow.Author.Tests.{lt-ltb, le-ltb, not-true, not-false}
 use Rattle.exact.specs.Float.{whole}
 use Rattle.lists.proofs.Walk.{and_both}
 use Rattle.numeric.specs.Vec3.{norm}
-use Rattle.numeric.specs.declared.refusal.Refusal.{Refusal}
 use Rattle.numeric.specs.declared.refusal.Refusal.TheVariants.{BadTrip}
 use Rattle.trip.specs.Measure.{millimetres_of}
 use Rattle.trip.specs.Steps.{way_of}
 use Rattle.trip.proofs.MeasureLaws.{by_length, way-within-is}
 use Rattle.mileage.specs.Rated.{rated}
-use Rattle.mileage.specs.Mileage.{is_refused, is_usable, length_of, is_taken, sound_mileage, grown, mileage_added, scaled, distance_held, fuel_over}
+use Rattle.mileage.specs.Mileage.{is_refused, is_usable, length_of, is_taken, sound_mileage, grown, mileage_added, scaled, distance_held}
 use Rattle.mileage.specs.Steps.{way_for}
 use Rattle.mileage.specs.declared.mileage.Epoch.{Epoch}
 use Rattle.mileage.specs.declared.mileage.Mileage.{Mileage}
-use Rattle.mileage.specs.declared.mileage.Step.TheVariants.{Refused, Goes}
-use Rattle.mileage.specs.declared.mileage.Distance.{Distance}
-use Rattle.mileage.specs.declared.mileage.Distance.TheVariants.{Refused as Unmeasured, Millimetres}
-use Rattle.mileage.specs.declared.mileage.Fuel.{Fuel}
-use Rattle.mileage.specs.declared.mileage.Fuel.TheVariants.{Refused as Unfuelled}
 
 -- ---- an addition
 
@@ -73,7 +68,7 @@ module _ (e : Epoch) {way : ℕ} (way-is : way ≡ way_for e.refused e.displacem
     test-is : (s && ltb m.epochs 65535 && leb way 1000000) ≡ (sound_mileage m && ltb m.epochs 65535 && is_taken e)
     test-is = rw (s-is, way-taken)
 
-    pub add-refused : (s && ltb m.epochs 65535 && leb way 1000000) ≡ false → Refused BadTrip ≡ mileage_added m e
+    pub add-refused : (s && ltb m.epochs 65535 && leb way 1000000) ≡ false → Err BadTrip ≡ mileage_added m e
     unfolding mileage_added
     add-refused h = rw (sym test-is ∙ h)
 
@@ -90,19 +85,19 @@ module _ (e : Epoch) {way : ℕ} (way-is : way ≡ way_for e.refused e.displacem
         record { is-sound = sym s-is ∙ q.0; room = q.1; within = p.1 }
 
     pub add_goes : {u : Bool} → u ≡ rated m.limit e.chi e.pdop → (s && ltb m.epochs 65535 && leb way 1000000) ≡ true
-        → Goes (grown m (not (eqb e.refused 0)) (not (not (eqb e.refused 0)) && u) way e.pulses) ≡ mileage_added m e
+        → Ok (grown m (not (eqb e.refused 0)) (not (not (eqb e.refused 0)) && u) way e.pulses) ≡ mileage_added m e
     unfolding mileage_added is_refused is_usable
     add_goes u-is h =
         rw (u-is, sym test-is ∙ h)
-        (ap Goes (unused m (not (eqb e.refused 0)) (is_usable m.limit e) way (millimetres_of e.displacement) e.pulses (way-length (accepted h).within m.limit)))
+        (ap Ok (unused m (not (eqb e.refused 0)) (is_usable m.limit e) way (millimetres_of e.displacement) e.pulses (way-length (accepted h).within m.limit)))
 
     -- an epoch of use with a pulse
     pub add_driven : {u : Bool} → u ≡ rated m.limit e.chi e.pdop → (s && ltb m.epochs 65535 && leb way 1000000) ≡ true
-        → (not (not (eqb e.refused 0)) && u && ltb 0 e.pulses) ≡ true → Goes (grown m false true way e.pulses) ≡ mileage_added m e
+        → (not (not (eqb e.refused 0)) && u && ltb 0 e.pulses) ≡ true → Ok (grown m false true way e.pulses) ≡ mileage_added m e
     add_driven {u} u-is h d =
         let p = (and_both (not (not (eqb e.refused 0)) && u) (ltb 0 e.pulses) d).0 in
         let q : not (eqb e.refused 0) ≡ false = not-true _ (and_both (not (not (eqb e.refused 0))) u p).0 in
-        ap₂ (λ (a b : Bool). Goes (grown m a b way e.pulses)) (sym q) (sym p) ∙ add_goes u-is h
+        ap₂ (λ (a b : Bool). Ok (grown m a b way e.pulses)) (sym q) (sym p) ∙ add_goes u-is h
 
 -- ---- the distance
 
@@ -123,7 +118,7 @@ module _ (a b c : ℕ) (pos : 0 < c) (few : c ≤ b) (small : b ≤ 4294836225) 
   pub fits : a / c ≤ (9223372036854775807 - a % c * b / c) / b → a / c * b ≤ 9223372036854775807 - a % c * b / c
   fits h = let p : 0 < b = omega arith in (le-div_iff_mul-le p).0 h
 
-  pub too_far : (9223372036854775807 - a % c * b / c) / b < a / c → Unmeasured BadTrip ≡ distance_held (scaled a b c)
+  pub too_far : (9223372036854775807 - a % c * b / c) / b < a / c → Err BadTrip ≡ distance_held (scaled a b c)
   unfolding distance_held scaled
   too_far h =
       let p : 0 < b = omega arith in
@@ -131,18 +126,8 @@ module _ (a b c : ℕ) (pos : 0 < c) (few : c ≤ b) (small : b ≤ 4294836225) 
       let k : 2 ^ 63 ≤ a * b / c = omega (arith, split a b c pos, g, rest-small) in
       rw (le-ltb (a * b / c) (2 ^ 63) k)
 
-  pub near : a / c ≤ (9223372036854775807 - a % c * b / c) / b → Millimetres (a / c * b + a % c * b / c) ≡ distance_held (scaled a b c)
+  pub near : a / c ≤ (9223372036854775807 - a % c * b / c) / b → Ok (a / c * b + a % c * b / c) ≡ distance_held (scaled a b c)
   unfolding distance_held scaled
   near h =
       let k : a * b / c < 2 ^ 63 = omega (arith, split a b c pos, fits h, rest-small) in
-      rw (lt-ltb (a * b / c) (2 ^ 63) k) (ap Millimetres (sym (split a b c pos)))
-
--- ---- the fuel over a distance
-
-module _ (millilitres : ℕ) (d : Distance) where
-  pub fuel-refused : (r : Refusal) → Unmeasured r ≡ d → Unfuelled r ≡ fuel_over millilitres d
-  unfolding fuel_over
-  fuel-refused r h = ap (fuel_over millilitres) h
-
-  pub fuel-over : (n : ℕ) {f : Fuel} → f ≡ fuel_over millilitres (Millimetres n) → Millimetres n ≡ d → f ≡ fuel_over millilitres d
-  fuel-over n e h = e ∙ ap (fuel_over millilitres) h
+      rw (lt-ltb (a * b / c) (2 ^ 63) k) (ap Ok (sym (split a b c pos)))

@@ -1,5 +1,6 @@
 -- What a depot leans on, of the calls on words and for every list of epochs: each epoch is in one class, the distance does not depend on which epochs were refused,
 -- set aside or standing, and where none was it is the trip's. Assumes nothing.
+use Rattle.std.specs.Prelude.{Ok}
 use mathlib.Core.Path.{◌≡◌, refl, sym, ap, ◌∙◌}
 use mathlib.Core.List.{List, [], ◌∷◌, ◌++◌, map}
 use mathlib.Core.Bool.{Bool, true, false, cond, not, ◌&&◌, ◌||◌, false≢true}
@@ -21,7 +22,6 @@ use Rattle.mileage.specs.Mileage.{is_refused, is_usable, is_aside, moves, length
 use Rattle.mileage.specs.Words.{distance_words, called}
 use Rattle.mileage.specs.declared.mileage.Epoch.{Epoch}
 use Rattle.mileage.specs.declared.mileage.Report.{Report}
-use Rattle.mileage.specs.declared.mileage.Distance.TheVariants.{Millimetres}
 
 -- ---- 4. classes
 
@@ -189,7 +189,7 @@ module _ (limit : Float) where
   some-pulse (e ∷ es) a h l = first-pulse e es (and_both (is_usable limit e) (near_pulse (head false e es)) (unfold is_counted in first_counted false e es a h)).1
 
 -- where all pulses are counted
-all-covered : (a b : ℕ) → 0 < b → a < 2 ^ 63 → distance_held (scaled a b b) ≡ Millimetres a
+all-covered : (a b : ℕ) → 0 < b → a < 2 ^ 63 → distance_held (scaled a b b) ≡ Ok a
 unfolding distance_held scaled
 all-covered a b p h = rw (mul-div_cancel a p, lt-ltb a (2 ^ 63) h)
 
@@ -221,21 +221,21 @@ module _ (limit : Float) (es : List Epoch) (g : Given limit es) (w : List ℕ) (
   pulse = some-pulse limit (taking es) accepted-all u l
 
   -- where no epoch is refused or set aside and none stands, the distance is the trip's carrier total of the same epochs,
-  pub carrier-law : distance_words (called limit w es) ≡ Millimetres (carrier_millimetres (counting (map leg_of es)))
+  pub carrier-law : distance_words (called limit w es) ≡ Ok (carrier_millimetres (counting (map leg_of es)))
   carrier-law =
       let c = mileage_report limit (taking es) in
       counted-distance limit es g w (rw all-pulses pulse)
       ∙ ap (λ (z : ℕ). distance_held (scaled c.counted c.pulses z)) all-pulses
       ∙ all-covered c.counted c.pulses pulse (omega (arith, counted-bound limit es g))
-      ∙ ap Millimetres all_lengths
+      ∙ ap Ok all_lengths
 
   -- which is word 2 of the trip after its start, whatever the words held, and the calls that add them to it
   pub trip_law : (rate : ℕ) → 0 < rate → rate ≤ 65535 → (before : List ℕ)
-      → distance_words (called limit w es) ≡ Millimetres (get_or (words_after_calls rate before (map addition_of es)) 2 0)
+      → distance_words (called limit w es) ≡ Ok (get_or (words_after_calls rate before (map addition_of es)) 2 0)
   unfolding counted_legs
   trip_law rate p q before =
       let calls = map addition_of es in
       let n : every trip-narrow (map legIn calls) ≡ true = rw (legs_same es) (narrow_legs es g.pulses) in
       carrier-law
-      ∙ ap (λ (ls : List Leg). Millimetres (carrier_millimetres (counting ls))) (sym (legs_same es))
-      ∙ ap (λ (v : List ℕ). Millimetres (get_or v 2 0)) (sym (calls-law rate p q before calls n).words_are)
+      ∙ ap (λ (ls : List Leg). Ok (carrier_millimetres (counting ls))) (sym (legs_same es))
+      ∙ ap (λ (v : List ℕ). Ok (get_or v 2 0)) (sym (calls-law rate p q before calls n).words_are)

@@ -5,4 +5,3 @@ pub mod RatedLaws
 pub mod ListLaws
 pub mod MileageLaws
 pub mod DistanceLaws
-pub mod WordLaws

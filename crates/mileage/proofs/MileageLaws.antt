@@ -1,5 +1,6 @@
 -- The words that calls leave, one after the other from the start, are those of the list of epochs taken, and so are report, distance and fuel, for every list.
 -- Assumes nothing.
+use Rattle.std.specs.Prelude.{Ok}
 use mathlib.Core.Path.{◌≡◌, refl, sym, ap, ◌∙◌}
 use mathlib.Core.List.{List, [], ◌∷◌, ◌++◌, append_assoc, append-nil}
 use mathlib.Core.Bool.{Bool, true, false, cond, not, ◌&&◌, ◌||◌, and-false, false≢true}
@@ -20,7 +21,6 @@ use Rattle.mileage.specs.Mileage.{is_refused, is_usable, length_of, sum, in_plac
 use Rattle.mileage.specs.Words.{mileage_from, mileage_words, mileage_reported_words, distance_words, mileage_fuelled_words, mileage_after, mileage_next, called}
 use Rattle.mileage.specs.declared.mileage.Epoch.{Epoch}
 use Rattle.mileage.specs.declared.mileage.Mileage.{Mileage}
-use Rattle.mileage.specs.declared.mileage.Reported.TheVariants.{Totals}
 use Rattle.mileage.proofs.BoundsLaws.{bounds, bounded}
 use Rattle.mileage.proofs.ListLaws.{more, reported-of}
 
@@ -189,11 +189,11 @@ module _ (limit : Float) (es : List Epoch) (g : Given limit es) where
   held-law w = ap (λ (v : List ℕ). mileage_from v) (words-law w) ∙ held_of limit g.double (taking es)
 
   -- and so are report,
-  reported-list : mileage_reported (mileage_of limit (taking es)) ≡ Totals (mileage_report limit (taking es))
+  reported-list : mileage_reported (mileage_of limit (taking es)) ≡ Ok (mileage_report limit (taking es))
   unfolding mileage_reported
   reported-list = rw (sound, sym (reported-of limit (taking es))) (unfold mileage_of in refl)
 
-  pub report-law : (w : List ℕ) → mileage_reported_words (called limit w es) ≡ Totals (mileage_report limit (taking es))
+  pub report-law : (w : List ℕ) → mileage_reported_words (called limit w es) ≡ Ok (mileage_report limit (taking es))
   report-law w = ap (λ (m : Mileage). mileage_reported m) (held-law w) ∙ reported-list
 
   -- distance

@@ -1,4 +1,6 @@
 -- A drive's distance (docs/SCOPE.md, "Mileage"): the totals of a list of epochs, and the calls of a mileage. Definitions only.
+use Rattle.std.specs.Prelude.{Result, Ok, Err}
+use Rattle.numeric.specs.declared.refusal.Refusal.{Refusal}
 use Rattle.std.specs.Prelude.{ℕ, ◌+◌, ◌*◌, ◌/◌, ◌^◌, Bool, true, false, cond, not, ◌&&◌, ◌||◌, List, [], ◌∷◌, leb, ltb, eqb, length, take, Float}
 use Rattle.lists.specs.Walk.{collect}
 use Rattle.numeric.specs.Real.{in_range}
@@ -8,14 +10,6 @@ use Rattle.mileage.specs.Rated.{rated}
 use Rattle.mileage.specs.declared.mileage.Epoch.{Epoch}
 use Rattle.mileage.specs.declared.mileage.Mileage.{Mileage}
 use Rattle.mileage.specs.declared.mileage.Report.{Report}
-use Rattle.mileage.specs.declared.mileage.Step.{Step}
-use Rattle.mileage.specs.declared.mileage.Step.TheVariants.{Refused, Goes}
-use Rattle.mileage.specs.declared.mileage.Reported.{Reported}
-use Rattle.mileage.specs.declared.mileage.Reported.TheVariants.{Refused as Unreported, Totals}
-use Rattle.mileage.specs.declared.mileage.Distance.{Distance}
-use Rattle.mileage.specs.declared.mileage.Distance.TheVariants.{Refused as Unmeasured, Millimetres}
-use Rattle.mileage.specs.declared.mileage.Fuel.{Fuel}
-use Rattle.mileage.specs.declared.mileage.Fuel.TheVariants.{Refused as Unfuelled, PerKilometre}
 
 -- ---- one epoch
 
@@ -131,8 +125,8 @@ sound_mileage m =
     && in_range m.limit
 
 -- a mileage just started; 3 for a limit that is not finite or above 1e9 in magnitude
-unfoldable pub mileage_started : Float → Step
-mileage_started limit = cond (in_range limit) (Goes (mileage_of limit [])) (Refused SettingOutOfRange)
+unfoldable pub mileage_started : Float → Result Mileage Refusal
+mileage_started limit = cond (in_range limit) (Ok (mileage_of limit [])) (Err SettingOutOfRange)
 
 -- one epoch more: a pulse in it makes the last epoch's waiting millimetres count, and no pulse leaves them standing
 unfoldable pub grown : Mileage → Bool → Bool → ℕ → ℕ → Mileage
@@ -157,16 +151,16 @@ unfoldable pub is_taken : Epoch → Bool
 is_taken e = is_refused e || measurable e.displacement
 
 -- one epoch more; 16 for a mileage that is not sound, a full one, and an epoch that is not taken
-unfoldable pub mileage_added : Mileage → Epoch → Step
+unfoldable pub mileage_added : Mileage → Epoch → Result Mileage Refusal
 mileage_added m e =
     cond (sound_mileage m && ltb m.epochs 65535 && is_taken e)
-    (Goes (grown m (is_refused e) (is_usable m.limit e) (length_of e) e.pulses))
-    (Refused BadTrip)
+    (Ok (grown m (is_refused e) (is_usable m.limit e) (length_of e) e.pulses))
+    (Err BadTrip)
 
-unfoldable pub mileage_reported : Mileage → Reported
+unfoldable pub mileage_reported : Mileage → Result Report Refusal
 mileage_reported m =
     cond (sound_mileage m)
-    (Totals (record {
+    (Ok (record {
       epochs = m.epochs;
       refused = m.refused;
       aside = m.aside;
@@ -175,25 +169,25 @@ mileage_reported m =
       standing = m.standing + m.waiting;
       pulses = m.pulses;
     }))
-    (Unreported BadTrip)
+    (Err BadTrip)
 
 -- 16 for a distance above 2 ^ 63 - 1
-unfoldable pub distance_held : ℕ → Distance
-distance_held d = cond (ltb d (2 ^ 63)) (Millimetres d) (Unmeasured BadTrip)
+unfoldable pub distance_held : ℕ → Result ℕ Refusal
+distance_held d = cond (ltb d (2 ^ 63)) (Ok d) (Err BadTrip)
 
 -- 17, after 16, where no pulse was counted
-unfoldable pub mileage_distance : Mileage → Distance
+unfoldable pub mileage_distance : Mileage → Result ℕ Refusal
 mileage_distance m =
-    cond (not (sound_mileage m)) (Unmeasured BadTrip)
-    (cond (eqb m.covered 0) (Unmeasured NoDistance)
+    cond (not (sound_mileage m)) (Err BadTrip)
+    (cond (eqb m.covered 0) (Err NoDistance)
     (distance_held (scaled m.counted m.pulses m.covered)))
 
 -- fuel per kilometre: millilitres times 1,000,000 by the distance, rounded down; 17 also where the distance is 0
-unfoldable pub fuel_over : ℕ → Distance → Fuel
-fuel_over millilitres (Unmeasured r) = Unfuelled r
-fuel_over millilitres (Millimetres d) = cond (eqb d 0) (Unfuelled NoDistance) (PerKilometre (millilitres * 1000000 / d))
+unfoldable pub fuel_over : ℕ → Result ℕ Refusal → Result ℕ Refusal
+fuel_over millilitres (Err r) = Err r
+fuel_over millilitres (Ok d) = cond (eqb d 0) (Err NoDistance) (Ok (millilitres * 1000000 / d))
 
-unfoldable pub mileage_fuelled : Mileage → ℕ → Fuel
+unfoldable pub mileage_fuelled : Mileage → ℕ → Result ℕ Refusal
 mileage_fuelled m millilitres = fuel_over millilitres (mileage_distance m)
 
 -- ---- calls one after the other
@@ -206,6 +200,6 @@ unfoldable pub taking : List Epoch → List Epoch
 taking es = take 65535 (takens es)
 
 -- the distance of a list of epochs: 17 where no pulse was counted
-unfoldable pub distance_of : Float → List Epoch → Distance
+unfoldable pub distance_of : Float → List Epoch → Result ℕ Refusal
 distance_of limit es =
-    let r = mileage_report limit es in cond (eqb r.covered 0) (Unmeasured NoDistance) (distance_held (scaled r.counted r.pulses r.covered))
+    let r = mileage_report limit es in cond (eqb r.covered 0) (Err NoDistance) (distance_held (scaled r.counted r.pulses r.covered))

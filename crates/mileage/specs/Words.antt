@@ -1,21 +1,20 @@
 -- A mileage as ten words (docs/SCOPE.md, "Mileage"): the limit's bits, epochs, refused, set aside, counted millimetres, counted pulses, standing millimetres, all
 -- pulses, whether the last epoch had a pulse, and the last epoch's millimetres where it stands so far. What the calls on them answer, and what lent words hold
 -- afterwards. Definitions only.
+use Rattle.numeric.specs.Refusal.{answer_number}
+use Rattle.std.specs.Prelude.{Result, Ok, Err}
+use Rattle.mileage.specs.declared.mileage.Report.{Report}
+use Rattle.numeric.specs.declared.refusal.Refusal.{Refusal}
 use Rattle.std.specs.Prelude.{◌≡◌, ℕ, List, [], ◌∷◌, get_or, Float}
 use Rattle.std.specs.Float.{nan}
 use Rattle.lists.specs.Memory.{before, after, Memory, LentNumbers, LentFloats}
 use Rattle.exact.specs.Float.{bits}
 use Rattle.lists.specs.Walk.{fold}
 use Rattle.numeric.specs.Order.{pattern_of}
-use Rattle.numeric.specs.Refusal.{number_of}
 use Rattle.numeric.specs.Vec3.{vector_at}
 use Rattle.mileage.specs.Mileage.{mileage_started, mileage_added, mileage_reported, mileage_distance, mileage_fuelled}
 use Rattle.mileage.specs.declared.mileage.Epoch.{Epoch}
 use Rattle.mileage.specs.declared.mileage.Mileage.{Mileage}
-use Rattle.mileage.specs.declared.mileage.Step.{Step}
-use Rattle.mileage.specs.declared.mileage.Reported.{Reported}
-use Rattle.mileage.specs.declared.mileage.Distance.{Distance}
-use Rattle.mileage.specs.declared.mileage.Fuel.{Fuel}
 
 -- ---- words and mileages, an epoch from what is lent
 
@@ -51,67 +50,54 @@ lent_epoch number delta quality pulses =
 
 -- ---- the calls on the mileage that words hold
 
-abbrev pub mileage_added_words : List ℕ → Epoch → Step
+abbrev pub mileage_added_words : List ℕ → Epoch → Result Mileage Refusal
 mileage_added_words w e = mileage_added (mileage_from w) e
 
-abbrev pub mileage_reported_words : List ℕ → Reported
+abbrev pub mileage_reported_words : List ℕ → Result Report Refusal
 mileage_reported_words w = mileage_reported (mileage_from w)
 
-abbrev pub distance_words : List ℕ → Distance
+abbrev pub distance_words : List ℕ → Result ℕ Refusal
 distance_words w = mileage_distance (mileage_from w)
 
-abbrev pub mileage_fuelled_words : List ℕ → ℕ → Fuel
+abbrev pub mileage_fuelled_words : List ℕ → ℕ → Result ℕ Refusal
 mileage_fuelled_words w millilitres = mileage_fuelled (mileage_from w) millilitres
 
 -- ---- the number, and what the lent words hold afterwards: a refusal changes nothing
 
-abbrev pub mileage_number : Step → ℕ
-mileage_number (Step.Refused r) = number_of r
-mileage_number (Step.Goes m) = 0
+abbrev pub mileage_after : Result Mileage Refusal → List ℕ → List ℕ
+mileage_after (Err r) w = w
+mileage_after (Ok m) w = mileage_words m
 
-abbrev pub mileage_after : Step → List ℕ → List ℕ
-mileage_after (Step.Refused r) w = w
-mileage_after (Step.Goes m) w = mileage_words m
+abbrev pub mileage_report_words : Report → List ℕ
+mileage_report_words p = p.epochs ∷ p.refused ∷ p.aside ∷ p.counted ∷ p.covered ∷ p.standing ∷ p.pulses ∷ []
 
-abbrev pub mileage_report_number : Reported → ℕ
-mileage_report_number (Reported.Refused r) = number_of r
-mileage_report_number (Reported.Totals p) = 0
+abbrev pub mileage_report_after : Result Report Refusal → List ℕ → List ℕ
+mileage_report_after (Err r) w = w
+mileage_report_after (Ok p) w = mileage_report_words p
 
-abbrev pub mileage_report_after : Reported → List ℕ → List ℕ
-mileage_report_after (Reported.Refused r) w = w
-mileage_report_after (Reported.Totals p) w = p.epochs ∷ p.refused ∷ p.aside ∷ p.counted ∷ p.covered ∷ p.standing ∷ p.pulses ∷ []
+abbrev pub distance_after : Result ℕ Refusal → ℕ → ℕ
+distance_after (Err r) n = n
+distance_after (Ok d) n = d
 
-abbrev pub distance_number : Distance → ℕ
-distance_number (Distance.Refused r) = number_of r
-distance_number (Distance.Millimetres d) = 0
-
-abbrev pub distance_after : Distance → ℕ → ℕ
-distance_after (Distance.Refused r) n = n
-distance_after (Distance.Millimetres d) n = d
-
-abbrev pub mileage_fuel_number : Fuel → ℕ
-mileage_fuel_number (Fuel.Refused r) = number_of r
-mileage_fuel_number (Fuel.PerKilometre m) = 0
-
-abbrev pub mileage_fuel_after : Fuel → ℕ → ℕ
-mileage_fuel_after (Fuel.Refused r) n = n
-mileage_fuel_after (Fuel.PerKilometre m) n = m
+abbrev pub mileage_fuel_after : Result ℕ Refusal → ℕ → ℕ
+mileage_fuel_after (Err r) n = n
+mileage_fuel_after (Ok m) n = m
 
 -- what calls on lent words promise
-pub record MileageAnswers (s : Step) (number : ℕ) (mileage : LentNumbers) : Type 0 where
-  pub number_is : number ≡ mileage_number s
+pub record MileageAnswers (s : Result Mileage Refusal) (number : ℕ) (mileage : LentNumbers) : Type 0 where
+  pub number_is : number ≡ answer_number s
   pub words_are : after mileage ≡ mileage_after s (before mileage)
 
-pub record MileageReportAnswers (q : Reported) (number : ℕ) (report : LentNumbers) : Type 0 where
-  pub number_is : number ≡ mileage_report_number q
+pub record MileageReportAnswers (q : Result Report Refusal) (number : ℕ) (report : LentNumbers) : Type 0 where
+  pub number_is : number ≡ answer_number q
   pub words_are : after report ≡ mileage_report_after q (before report)
 
-pub record DistanceAnswers (d : Distance) (number : ℕ) (millimetres : Memory ℕ) : Type 0 where
-  pub number_is : number ≡ distance_number d
+pub record DistanceAnswers (d : Result ℕ Refusal) (number : ℕ) (millimetres : Memory ℕ) : Type 0 where
+  pub number_is : number ≡ answer_number d
   pub word-is : after millimetres ≡ distance_after d (before millimetres)
 
-pub record MileageFuelAnswers (f : Fuel) (number : ℕ) (per-km : Memory ℕ) : Type 0 where
-  pub number_is : number ≡ mileage_fuel_number f
+pub record MileageFuelAnswers (f : Result ℕ Refusal) (number : ℕ) (per-km : Memory ℕ) : Type 0 where
+  pub number_is : number ≡ answer_number f
   pub word-is : after per-km ≡ mileage_fuel_after f (before per-km)
 
 -- ---- calls one after the other

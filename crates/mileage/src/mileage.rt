@@ -9,7 +9,8 @@ use numeric::refusal::Refusal;
 use numeric::vec3::Vec3;
 use trip::measure::way_of_square;
 
-// One epoch: the number that refused its displacement (0: none), the displacement in metres, its quality, and its odometer pulses.
+// One epoch: the number that refused its displacement (0: none), the displacement in metres, its quality, and its odometer pulses. The number is a C caller's and
+// may be that of no `Refusal`.
 #[derive(Clone, Copy)]
 pub struct Epoch {
     pub refused: u8,
@@ -48,30 +49,6 @@ pub struct Report {
     pub pulses: u64,
 }
 
-#[derive(Clone, Copy)]
-pub enum Step {
-    Refused(Refusal),
-    Goes(Mileage),
-}
-
-#[derive(Clone, Copy)]
-pub enum Reported {
-    Refused(Refusal),
-    Totals(Report),
-}
-
-#[derive(Clone, Copy)]
-pub enum Distance {
-    Refused(Refusal),
-    Millimetres(u64),
-}
-
-#[derive(Clone, Copy)]
-pub enum Fuel {
-    Refused(Refusal),
-    PerKilometre(u64),
-}
-
 // n where the test holds, and otherwise 0.
 pub(crate) fn when(test: bool, n: u64) -> u64
     ensures { (result ≡ cond test n 0) × (result ≤ n) }
@@ -80,16 +57,16 @@ pub(crate) fn when(test: bool, n: u64) -> u64
 }
 
 // Multiplies by pulses and divides by covered in 64 bits. Refuses a result above 2 ^ 63 - 1.
-pub(crate) fn scaled(counted: u64, pulses: u64, covered: u64) -> Distance
+pub(crate) fn scaled(counted: u64, pulses: u64, covered: u64) -> Result<u64, Refusal>
     requires { (0 < covered) × (covered ≤ pulses) × (pulses ≤ 4294836225) }
     ensures { result ≡ spec.distance_held (spec.scaled counted pulses covered) }
 {
     let whole = counted / covered;
     let rest = counted % covered * pulses / covered;
     if (9223372036854775807 - rest) / pulses < whole {
-        return Distance::Refused(Refusal::BadTrip);
+        return Err(Refusal::BadTrip);
     }
-    Distance::Millimetres(whole * pulses + rest)
+    Ok(whole * pulses + rest)
 }
 
 // Returns the way of an accepted displacement. A refused one is not measured.
@@ -105,11 +82,11 @@ pub(crate) fn way_for(refused: u8, displacement: Vec3) -> u64
 
 impl Mileage {
     // Starts a mileage with this limit.
-    pub fn start(limit: f64) -> Step
+    pub fn start(limit: f64) -> Result<Mileage, Refusal>
         ensures { result ≡ spec.mileage_started limit }
     {
         if in_range(limit) {
-            return Step::Goes(Mileage {
+            return Ok(Mileage {
                 limit,
                 epochs: 0,
                 refused: 0,
@@ -122,7 +99,7 @@ impl Mileage {
                 waiting: 0,
             });
         }
-        Step::Refused(Refusal::SettingOutOfRange)
+        Err(Refusal::SettingOutOfRange)
     }
 
     // Checks rule 16 of a mileage handed in. The first test keeps the sums of the second from overflowing. None fails in a drive, so that two branches cost least.
@@ -175,38 +152,35 @@ impl Mileage {
         ensures { result ≡ spec.grown self false true millimetres more }
     {
         Mileage {
-            limit: self.limit,
             epochs: self.epochs + 1,
-            refused: self.refused,
-            aside: self.aside,
             counted: self.counted + self.waiting + millimetres,
             covered: self.covered + more,
-            standing: self.standing,
             pulses: self.pulses + more,
             moved: 1,
             waiting: 0,
+            ..self
         }
     }
 
     // Adds an epoch whose displacement is of this way. The usual case has a branch of its own.
-    pub(crate) fn add_way(self, way: u64, e: Epoch) -> Step
+    pub(crate) fn add_way(self, way: u64, e: Epoch) -> Result<Mileage, Refusal>
         requires { way ≡ way_for e.refused e.displacement }
         ensures { result ≡ spec.mileage_added self e }
     {
         if !(self.is_sound() & (self.epochs < 65535) & (way <= 1000000)) {
-            return Step::Refused(Refusal::BadTrip);
+            return Err(Refusal::BadTrip);
         }
         let refused = e.refused != 0;
         let usable = !refused & is_rated(self.limit, e.chi, e.pdop);
         let pulses = e.pulses as u64;
         if usable & (0 < pulses) {
-            return Step::Goes(self.driven(way, pulses));
+            return Ok(self.driven(way, pulses));
         }
-        Step::Goes(self.grown(refused, usable, way, pulses))
+        Ok(self.grown(refused, usable, way, pulses))
     }
 
     // Adds an epoch.
-    pub fn add(self, e: Epoch) -> Step
+    pub fn add(self, e: Epoch) -> Result<Mileage, Refusal>
         ensures { result ≡ spec.mileage_added self e }
     {
         let way = way_for(e.refused, e.displacement);
@@ -214,13 +188,13 @@ impl Mileage {
     }
 
     // Reports the totals. The last epoch's millimetres count as standing where no pulse came so far.
-    pub fn report(self) -> Reported
+    pub fn report(self) -> Result<Report, Refusal>
         ensures { result ≡ spec.mileage_reported self }
     {
         if !self.is_sound() {
-            return Reported::Refused(Refusal::BadTrip);
+            return Err(Refusal::BadTrip);
         }
-        Reported::Totals(Report {
+        Ok(Report {
             epochs: self.epochs,
             refused: self.refused,
             aside: self.aside,
@@ -232,32 +206,26 @@ impl Mileage {
     }
 
     // The distance in millimetres: those of counted epochs times all pulses by the pulses of counted epochs.
-    pub fn distance(self) -> Distance
+    pub fn distance(self) -> Result<u64, Refusal>
         ensures { result ≡ spec.mileage_distance self }
     {
         if !self.is_sound() {
-            return Distance::Refused(Refusal::BadTrip);
+            return Err(Refusal::BadTrip);
         }
         if self.covered == 0 {
-            return Distance::Refused(Refusal::NoDistance);
+            return Err(Refusal::NoDistance);
         }
         scaled(self.counted, self.pulses, self.covered)
     }
 
     // The millilitres for a kilometre of the distance.
-    pub fn fuel(self, millilitres: u32) -> Fuel
+    pub fn fuel(self, millilitres: u32) -> Result<u64, Refusal>
         ensures { result ≡ spec.mileage_fuelled self millilitres }
     {
-        let far = self.distance();
-        match far {
-            Distance::Refused(r) => Fuel::Refused(r),
-            Distance::Millimetres(d) => {
-                if d == 0 {
-                    Fuel::Refused(Refusal::NoDistance)
-                } else {
-                    Fuel::PerKilometre((millilitres as u64) * 1000000 / d)
-                }
-            }
+        let d = self.distance()?;
+        if d == 0 {
+            return Err(Refusal::NoDistance);
         }
+        Ok((millilitres as u64) * 1000000 / d)
     }
 }

@@ -1,5 +1,5 @@
 -- The steps of forming the normal equations, and what they leave. Definitions only.
-use Rattle.std.specs.Prelude.{◌≡◌, ℕ, cond, ◌&&◌, List, ltb, leb, eqb, set, get_or, length, Float}
+use Rattle.std.specs.Prelude.{◌≡◌, ℕ, cond, ◌&&◌, List, ltb, leb, eqb, set, take, get_or, length, Float}
 use Rattle.std.specs.Float.{nan}
 use Rattle.exact.specs.Float.{◌⊕◌, ◌⊗◌, +0, 1·0}
 use Rattle.cholesky.specs.Factor.{at, cell}
@@ -10,7 +10,8 @@ use Rattle.normal_equations.specs.Equations.{matrix_of, right_of}
 use Rattle.normal_equations.specs.declared.row.Row.{Row}
 use Rattle.normal_equations.specs.declared.equations.Corner.{Corner}
 use Rattle.lists.specs.Walk.{places}
-use Rattle.lists.specs.Memory.{before, LentNumbers, LentFloats}
+use Rattle.normal_equations.specs.declared.columns.Columns.{Columns}
+use Rattle.normal_equations.specs.declared.columns.Table.{Table}
 
 -- the matrix of n unknowns before any row is added: 1 on the diagonal of the unused ones
 unfoldable pub unused : ℕ → List (List Float)
@@ -104,8 +105,12 @@ abbrev pub rows_in : RoundColumns → List Row
 rows_in c = places (row_in c) (length c.residual)
 
 -- the columns that a call is lent, and their rows
-abbrev pub lent_columns : LentFloats → LentFloats → LentFloats → LentNumbers → LentFloats → LentNumbers → RoundColumns
-lent_columns x y z clock sigma residual = columns (before x) (before y) (before z) (before clock) (before sigma) (before residual)
+abbrev pub lent_columns : Columns → RoundColumns
+lent_columns c = columns c.x.now c.y.now c.z.now c.clock.now c.sigma.now c.residual.now
 
-abbrev pub lent_rows : LentFloats → LentFloats → LentFloats → LentNumbers → LentFloats → LentNumbers → List Row
-lent_rows x y z clock sigma residual = rows_in (lent_columns x y z clock sigma residual)
+-- the columns of the first n rows
+abbrev pub first_columns : ℕ → Table → RoundColumns
+first_columns n t = columns t.x t.y t.z t.clock t.sigma (take n t.residual)
+
+abbrev pub lent_rows : Columns → List Row
+lent_rows c = rows_in (lent_columns c)

@@ -3,9 +3,10 @@ ghost use Rattle.std.specs.Prelude.{◌≡◌, true, ◌≤◌, ◌<◌, length}
 ghost use Rattle.normal_equations.specs.Nine.{Square};
 ghost use Rattle.normal_equations.specs.Weight as spec;
 ghost use Rattle.normal_equations.specs.Steps as code;
-ghost use Rattle.normal_equations.specs.Steps.{lent_columns, lent_rows, row_in};
+ghost use Rattle.normal_equations.specs.Steps.{lent_rows};
 
-use crate::row::{Row, wide};
+use crate::columns::Columns;
+use crate::row::wide;
 use crate::weight::weight;
 use median::centre::CentreScale;
 use numeric::order::float;
@@ -19,33 +20,6 @@ pub fn unused(n: usize, a: &mut [[f64; 9]; 9])
     *a = [[0.0; 9]; 9];
     for i in n..9 {
         a[i][i] = 1.0;
-    }
-}
-
-// Returns row k of the columns.
-pub fn row_at(
-    x: &[f64; 64],
-    y: &[f64; 64],
-    z: &[f64; 64],
-    clock: &[usize; 64],
-    sigma: &[f64; 64],
-    residual: &[u64],
-    k: usize,
-) -> Row
-    requires { (length residual.now ≤ 64) × (k < length residual.now) }
-    ensures { result ≡ row_in (lent_columns x y z clock sigma residual) k }
-{
-    let u = x[k];
-    let v = y[k];
-    let h = z[k];
-    let q = clock[k];
-    let s = sigma[k];
-    let p = residual[k];
-    Row {
-        unit: Vec3 { x: u, y: v, z: h },
-        clock: q,
-        residual: p,
-        sigma: s,
     }
 }
 
@@ -92,27 +66,22 @@ pub fn add_triangle(n: usize, t: &[f64; 9], e: &[f64; 9], a: &mut [[f64; 9]; 9])
 
 // Forms the normal equations in a and b, the matrix by its lower triangle, over every place of every row.
 fn form(
-    x: &[f64; 64],
-    y: &[f64; 64],
-    z: &[f64; 64],
-    clock: &[usize; 64],
-    sigma: &[f64; 64],
-    residual: &[u64],
+    rows: Columns,
     n: usize,
     c: CentreScale,
     huber: f64,
     a: &mut [[f64; 9]; 9],
     b: &mut [f64; 9],
 )
-    requires { (length residual.now ≤ 64) × (n ≤ 9) }
-    ensures { code.Formed (spec.weight c huber) (lent_rows x y z clock sigma residual) n a.new b.new }
+    requires { n ≤ 9 }
+    ensures { code.Formed (spec.weight c huber) (lent_rows rows.entry) n a.new b.new }
 {
     unused(n, a);
     *b = [0.0; 9];
-    let count = residual.len();
+    let count = rows.residual.len();
     let mut e = [0.0; 9];
     for k in 0..count {
-        let r = row_at(x, y, z, clock, sigma, residual, k);
+        let r = rows.row_at(k);
         let p = r.residual;
         let w = weight(c, huber, r);
         wide(r, &mut e);
@@ -218,35 +187,26 @@ fn put_side(v: Vec3, b: &mut [f64; 9])
 // Forms the normal equations over the places of a row that are not 0: x, y, z and the clock. Zeros add nothing where every number is finite.
 // Returns false, with a and b of no use, where a clock is below 3, at n or beyond, or a number is not finite.
 fn form_by_places(
-    x: &[f64; 64],
-    y: &[f64; 64],
-    z: &[f64; 64],
-    clock: &[usize; 64],
-    sigma: &[f64; 64],
-    residual: &[u64],
+    rows: Columns,
     n: usize,
     c: CentreScale,
     huber: f64,
     a: &mut [[f64; 9]; 9],
     b: &mut [f64; 9],
 ) -> bool
-    requires { (length residual.now ≤ 64) × (n ≤ 9) }
-    ensures { result ≡ true → code.Formed (spec.weight c huber) (lent_rows x y z clock sigma residual) n a.new b.new }
+    requires { n ≤ 9 }
+    ensures { result ≡ true → code.Formed (spec.weight c huber) (lent_rows rows.entry) n a.new b.new }
 {
     if n < 3 {
         return false;
     }
     unused(n, a);
     *b = [0.0; 9];
-    let count = residual.len();
+    let count = rows.residual.len();
     let mut s = no_corner();
-    let mut v = Vec3 {
-        x: 0.0,
-        y: 0.0,
-        z: 0.0,
-    };
+    let mut v = Vec3::ZERO;
     for k in 0..count {
-        let r = row_at(x, y, z, clock, sigma, residual, k);
+        let r = rows.row_at(k);
         let i = r.clock;
         if i < 3 {
             return false;
@@ -270,23 +230,18 @@ fn form_by_places(
 
 // Forms the normal equations in a and b: over the places that are not 0, or over all where that is not enough.
 pub fn normal(
-    x: &[f64; 64],
-    y: &[f64; 64],
-    z: &[f64; 64],
-    clock: &[usize; 64],
-    sigma: &[f64; 64],
-    residual: &[u64],
+    rows: Columns,
     n: usize,
     c: CentreScale,
     huber: f64,
     a: &mut [[f64; 9]; 9],
     b: &mut [f64; 9],
 )
-    requires { (length residual.now ≤ 64) × (n ≤ 9) }
-    ensures { code.Formed (spec.weight c huber) (lent_rows x y z clock sigma residual) n a.new b.new }
+    requires { n ≤ 9 }
+    ensures { code.Formed (spec.weight c huber) (lent_rows rows.entry) n a.new b.new }
 {
-    if form_by_places(x, y, z, clock, sigma, residual, n, c, huber, a, b) {
+    if form_by_places(rows, n, c, huber, a, b) {
         return;
     }
-    form(x, y, z, clock, sigma, residual, n, c, huber, a, b);
+    form(rows, n, c, huber, a, b);
 }

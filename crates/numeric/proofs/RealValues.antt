@@ -1,4 +1,5 @@
 -- Worked values of the definitions of Real, Vec3 and Sight, by computation. Assumes nothing.
+use Rattle.std.specs.Prelude.{Err}
 use mathlib.Core.Path.{◌≡◌, refl}
 use mathlib.Core.Bool.{true, false}
 use mathlib.Core.List.{[], ◌∷◌}
@@ -11,7 +12,6 @@ use Rattle.numeric.specs.Vec3.{add as vec-plus, sub as vec-minus, norm}
 use Rattle.numeric.specs.Sight.{earth_rate, travel_angle, turned, gap, along, sight_of, on_receiver, geometry}
 use Rattle.numeric.specs.declared.vec3.Vec3.{Vec3}
 use Rattle.numeric.specs.declared.refusal.Refusal.TheVariants.{OnReceiver}
-use Rattle.numeric.specs.declared.sight.Sighting.TheVariants.{Refused}
 
 -- ---- square and hypot
 
@@ -186,6 +186,6 @@ unfolding sight_of gap along turned travel_angle travel_sine travel_cosine le no
 sight = refl
 
 -- a satellite at the receiver's own coordinates is not seen
-pub on-top : geometry (vec (whole 6371000) (whole 1000) (neg (whole 2000))) (vec (whole 6371000) (whole 1000) (neg (whole 2000))) ≡ Refused OnReceiver
+pub on-top : geometry (vec (whole 6371000) (whole 1000) (neg (whole 2000))) (vec (whole 6371000) (whole 1000) (neg (whole 2000))) ≡ Err OnReceiver
 unfolding geometry on_receiver eq sight_of gap along turned travel_angle travel_sine travel_cosine le norm vec-minus sub add mul div neg root_of of_int of_bits
 on-top = refl

@@ -1,5 +1,5 @@
--- The number of each refusal (docs/REFUSALS.md). Definitions only.
-use Rattle.std.specs.Prelude.{ℕ}
+-- The number of each refusal (docs/REFUSALS.md). and of an answer. Definitions only.
+use Rattle.std.specs.Prelude.{ℕ, Result, Ok, Err}
 use Rattle.numeric.specs.declared.refusal.Refusal.{Refusal}
 use Rattle.numeric.specs.declared.refusal.Refusal.TheVariants.{BrokenForm, TooMany, SettingOutOfRange, RecordOutOfRange, BadInterval, BadTrack, TooFewPairs, TooFewRows, TooManySlots, FitFailed, TableFull, NoCorrection, BadTime, QualityNotFinite, OnReceiver, BadTrip, NoDistance, BadDropTime, NotTurned, NotCertified, BrokenRecords}
 
@@ -48,3 +48,13 @@ number_of NotTurned = 19
 number_of NotCertified = 20
 -- the length of the carrier records to be read is not a multiple of 59
 number_of BrokenRecords = 21
+
+-- the number of an answer: 0, or the refusal's
+abbrev pub answer_number : {A : Type 0} → Result A Refusal → ℕ
+answer_number (Ok x) = 0
+answer_number (Err r) = number_of r
+
+-- what a caller's memory holds after an answer: its value, or what it held
+abbrev pub value_after : {A : Type 0} → Result A Refusal → A → A
+value_after (Ok x) old = x
+value_after (Err r) old = old

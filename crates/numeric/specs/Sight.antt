@@ -1,4 +1,6 @@
 -- The line of sight from a satellite to a receiver, `geometry` of wls.rs and tdcp.rs, and its refusal (docs/SCOPE.md, "Line of sight"). Definitions only.
+use Rattle.std.specs.Prelude.{Result, Ok, Err}
+use Rattle.numeric.specs.declared.refusal.Refusal.{Refusal}
 use Rattle.std.specs.Prelude.{ℕ, Bool, not, cond, ◌||◌, Float}
 use Rattle.std.specs.Float.Ieee.{neg, eq}
 use Rattle.std.specs.Float.Ieee.Scale.{finite}
@@ -9,8 +11,6 @@ use Rattle.numeric.specs.Refusal.{number_of}
 use Rattle.numeric.specs.declared.vec3.Vec3.{Vec3}
 use Rattle.numeric.specs.declared.refusal.Refusal.TheVariants.{OnReceiver}
 use Rattle.numeric.specs.declared.sight.Sight.{Sight}
-use Rattle.numeric.specs.declared.sight.Sighting.{Sighting}
-use Rattle.numeric.specs.declared.sight.Sighting.TheVariants.{Refused, Seen}
 
 -- IS-GPS-200: the speed of light, 299,792,458 m/s, and the earth's rotation rate, 7.2921151467e-5 rad/s
 abbrev pub light_speed : Float
@@ -49,10 +49,5 @@ unfoldable pub on_receiver : Float → Bool
 on_receiver range = eq range +0 || not (finite range)
 
 -- the geometry of one satellite: refused where the range that it gives is zero or not finite
-unfoldable pub geometry : Vec3 → Vec3 → Sighting
-geometry satellite receiver = cond (on_receiver (sight_of satellite receiver).range) (Refused OnReceiver) (Seen (sight_of satellite receiver))
-
--- its number, which is 0 where it is given
-abbrev pub sighting_number : Sighting → ℕ
-sighting_number (Refused r) = number_of r
-sighting_number (Seen s) = 0
+unfoldable pub geometry : Vec3 → Vec3 → Result Sight Refusal
+geometry satellite receiver = cond (on_receiver (sight_of satellite receiver).range) (Err OnReceiver) (Ok (sight_of satellite receiver))

@@ -16,13 +16,6 @@ pub struct Sight {
     pub range: f64,
 }
 
-// The line of sight, or why it is not given.
-#[derive(Clone, Copy)]
-pub enum Sighting {
-    Refused(Refusal),
-    Seen(Sight),
-}
-
 // How far the earth turns while a signal travels the distance.
 pub fn travel_angle(distance: f64) -> f64
     ensures { result ≡ spec.travel_angle distance }
@@ -81,14 +74,14 @@ pub fn is_on_receiver(range: f64) -> bool
 }
 
 // The geometry of one satellite, which refuses by 15.
-pub fn geometry(satellite: Vec3, receiver: Vec3) -> Sighting
+pub fn geometry(satellite: Vec3, receiver: Vec3) -> Result<Sight, Refusal>
     ensures { result ≡ spec.geometry satellite receiver }
 {
     let s = sight_of(satellite, receiver);
     if is_on_receiver(s.range) {
-        return Sighting::Refused(Refusal::OnReceiver);
+        return Err(Refusal::OnReceiver);
     }
-    Sighting::Seen(s)
+    Ok(s)
 }
 
 // The lines of sight of one satellite's places at two epochs.

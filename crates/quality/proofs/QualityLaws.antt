@@ -1,4 +1,6 @@
 -- Chi and the dilution as the code works them out from the rows. Assumes nothing.
+use Rattle.numeric.specs.Refusal.{answer_number}
+use Rattle.std.specs.Prelude.{Result, Ok, Err}
 use mathlib.Core.Path.{◌≡◌, refl, sym, ap, ap₂, ◌∙◌, subst}
 use Prim.Native.Nat.{ℕ, ◌+◌, ◌-◌, ◌≤◌, ◌<◌, max}
 use native.Mathlib.Decide.{ℕ_discrete}
@@ -36,11 +38,8 @@ use Rattle.normal_equations.proofs.Places.{wide-x, wide-y, wide-z, wide-clock, w
 use Rattle.normal_equations.proofs.AllPlaces.{entry-finite, matrix-stored}
 use Rattle.numeric.specs.Rules.{ruled}
 use Rattle.quality.specs.Quality.{freedom_of, chi_of, unweighted_matrix, pdop_of, dilution_of, figure_rules, quality_of}
-use Rattle.quality.specs.Steps.{Forwarded, dilution_found, dilution_number, dilution_floats, Diluted, quality_number, quality_floats, Qualified}
+use Rattle.quality.specs.Steps.{Forwarded, dilution_found, dilution_floats, Diluted, quality_floats, Qualified}
 use Rattle.quality.specs.declared.figures.Figures.{Figures}
-use Rattle.quality.specs.declared.figures.Dilution.{Dilution}
-use Rattle.quality.specs.declared.figures.Quality.{Quality}
-use Rattle.quality.specs.declared.figures.Quality.TheVariants.{Refused, Rated}
 
 -- three tests that all pass
 pub passed : (p q r : Bool) → (p && q && r) ≡ true → T p × T q × T r
@@ -168,11 +167,11 @@ forwarded n l b x p u e = rw e record { places = forward-places n l b u; last_fi
 -- ---- the answers
 
 -- number and values follow the answer
-pub diluted : {n : ℕ} {rows : List Row} {r : Dilution} → r ≡ dilution_found n rows → Diluted n rows r
-diluted e = record { answer = e; number_is = ap dilution_number e; floats-are = ap dilution_floats e }
+pub diluted : {n : ℕ} {rows : List Row} {r : Result Float Refusal} → r ≡ dilution_found n rows → Diluted n rows r
+diluted e = record { answer = e; number_is = ap answer_number e; floats-are = ap dilution_floats e }
 
-pub qualified : {n : ℕ} {rows : List Row} {r : Quality} → r ≡ quality_of n rows → Qualified n rows r
-qualified e = record { answer = e; number_is = ap quality_number e; floats-are = ap quality_floats e }
+pub qualified : {n : ℕ} {rows : List Row} {r : Result Figures Refusal} → r ≡ quality_of n rows → Qualified n rows r
+qualified e = record { answer = e; number_is = ap answer_number e; floats-are = ap quality_floats e }
 
 -- an accepted factor is there whatever the lent rows held
 pub same_rows : (v : Factored) (y z : List (List Float)) → true ≡ factor.accepted v → rows_after v y ≡ rows_after v z
@@ -180,11 +179,11 @@ same_rows NoFactor y z e = absurd (let z : ◌≡◌ {A = ℕ} 0 1 = cc in omega
 same_rows (Lower l) y z e = refl
 
 module _ (n : ℕ) (rows : List Row) (m : List (List Float)) (m-is : m ≡ unweighted_matrix n rows) (ok : Bool) (ok-is : ok ≡ factor.accepted (factor_of m)) where
-  pub dilution_refused : ok ≡ false → Dilution.Refused FitFailed ≡ dilution_found n rows
+  pub dilution_refused : ok ≡ false → Err FitFailed ≡ dilution_found n rows
   unfolding dilution_found ruled
   dilution_refused e = let a : false ≡ factor.accepted (factor_of (unweighted_matrix n rows)) = sym e ∙ ok-is ∙ ap (λ (y : List (List Float)). factor.accepted (factor_of y)) m-is in rw (sym a)
 
-  pub dilution_is : (l z : List (List Float)) (pdop : Float) → l ≡ rows_after (factor_of m) z → ok ≡ true → pdop ≡ pdop_of l → Dilution.Of pdop ≡ dilution_found n rows
+  pub dilution_is : (l z : List (List Float)) (pdop : Float) → l ≡ rows_after (factor_of m) z → ok ≡ true → pdop ≡ pdop_of l → Ok pdop ≡ dilution_found n rows
   unfolding dilution_found ruled
   dilution_is l z pdop l-is e pdop-is =
       let a : true ≡ factor.accepted (factor_of (unweighted_matrix n rows)) = sym e ∙ ok-is ∙ ap (λ (y : List (List Float)). factor.accepted (factor_of y)) m-is in
@@ -197,65 +196,65 @@ module _ (n : ℕ) (rows : List Row) where
   accepted = factor.accepted (factor_of (unweighted_matrix n rows))
 
   -- whether there is a factor
-  pub dilution_no : (r : Refusal) → Dilution.Refused r ≡ dilution_found n rows → accepted ≡ false
+  pub dilution_no : (r : Refusal) → Err r ≡ dilution_found n rows → accepted ≡ false
   unfolding dilution_found ruled
   dilution_no r = go accepted
     where
-      go : (b : Bool) → Dilution.Refused r ≡ cond (not b) (Dilution.Refused FitFailed) (Dilution.Of (dilution_of n rows)) → b ≡ false
+      go : (b : Bool) → Err r ≡ cond (not b) (Err FitFailed) (Ok (dilution_of n rows)) → b ≡ false
       go true e = absurd (let z : ◌≡◌ {A = ℕ} 0 1 = cc in omega arith)
       go false e = refl
 
-  pub dilution_yes : (p : Float) → Dilution.Of p ≡ dilution_found n rows → (accepted ≡ true) × (p ≡ dilution_of n rows)
+  pub dilution_yes : (p : Float) → Ok p ≡ dilution_found n rows → (accepted ≡ true) × (p ≡ dilution_of n rows)
   unfolding dilution_found ruled
   dilution_yes p = go accepted
     where
-      go : (b : Bool) → Dilution.Of p ≡ cond (not b) (Dilution.Refused FitFailed) (Dilution.Of (dilution_of n rows)) → (b ≡ true) × (p ≡ dilution_of n rows)
+      go : (b : Bool) → Ok p ≡ cond (not b) (Err FitFailed) (Ok (dilution_of n rows)) → (b ≡ true) × (p ≡ dilution_of n rows)
       go true e = (refl, cc)
       go false e = absurd (let z : ◌≡◌ {A = ℕ} 0 1 = cc in omega arith)
 
-  pub quality-refused : (r : Refusal) → Dilution.Refused r ≡ dilution_found n rows → Refused r ≡ quality_of n rows
+  pub quality-refused : (r : Refusal) → Err r ≡ dilution_found n rows → Err r ≡ quality_of n rows
   unfolding dilution_found quality_of figure_rules ruled
   quality-refused r = go accepted
     where
-      go : (b : Bool) → Dilution.Refused r ≡ cond (not b) (Dilution.Refused FitFailed) (Dilution.Of (dilution_of n rows))
-          → Refused r ≡ cond (not b) (Refused FitFailed) (cond (not (finite (chi_of n rows) && finite (dilution_of n rows))) (Refused QualityNotFinite) (Rated (record { chi = chi_of n rows; pdop = dilution_of n rows })))
+      go : (b : Bool) → Err r ≡ cond (not b) (Err FitFailed) (Ok (dilution_of n rows))
+          → ◌≡◌ {A = Result Figures Refusal} (Err r) (cond (not b) (Err FitFailed) (cond (not (finite (chi_of n rows) && finite (dilution_of n rows))) (Err QualityNotFinite) (Ok (record { chi = chi_of n rows; pdop = dilution_of n rows }))))
       go true e = absurd (let z : ◌≡◌ {A = ℕ} 0 1 = cc in omega arith)
       go false e = cc
 
-  pub quality-given : (chi pdop : Float) → chi ≡ chi_of n rows → Dilution.Of pdop ≡ dilution_found n rows
-      → cond (finite chi && finite pdop) (Rated (record { chi = chi; pdop = pdop })) (Refused QualityNotFinite) ≡ quality_of n rows
+  pub quality-given : (chi pdop : Float) → chi ≡ chi_of n rows → Ok pdop ≡ dilution_found n rows
+      → cond {A = Result Figures Refusal} (finite chi && finite pdop) (Ok (record { chi = chi; pdop = pdop })) (Err QualityNotFinite) ≡ quality_of n rows
   unfolding dilution_found quality_of figure_rules ruled
   quality-given chi pdop c-is = go accepted (finite chi && finite pdop) refl
     where
-      go : (b d : Bool) → d ≡ (finite chi && finite pdop) → Dilution.Of pdop ≡ cond (not b) (Dilution.Refused FitFailed) (Dilution.Of (dilution_of n rows))
-          → cond d (Rated (record { chi = chi; pdop = pdop })) (Refused QualityNotFinite)
-          ≡ cond (not b) (Refused FitFailed) (cond (not (finite (chi_of n rows) && finite (dilution_of n rows))) (Refused QualityNotFinite) (Rated (record { chi = chi_of n rows; pdop = dilution_of n rows })))
+      go : (b d : Bool) → d ≡ (finite chi && finite pdop) → Ok pdop ≡ cond (not b) (Err FitFailed) (Ok (dilution_of n rows))
+          → cond {A = Result Figures Refusal} d (Ok (record { chi = chi; pdop = pdop })) (Err QualityNotFinite)
+          ≡ cond (not b) (Err FitFailed) (cond (not (finite (chi_of n rows) && finite (dilution_of n rows))) (Err QualityNotFinite) (Ok (record { chi = chi_of n rows; pdop = dilution_of n rows })))
       go false d d-is e = absurd (let z : ◌≡◌ {A = ℕ} 0 1 = cc in omega arith)
       go true d d-is e = let p : pdop ≡ dilution_of n rows = cc in rw (sym c-is, sym p, sym d-is) (last d)
         where
-          last : (d : Bool) → cond d (Rated (record { chi = chi; pdop = pdop })) (Refused QualityNotFinite) ≡ cond (not d) (Refused QualityNotFinite) (Rated (record { chi = chi; pdop = pdop }))
+          last : (d : Bool) → cond {A = Result Figures Refusal} d (Ok (record { chi = chi; pdop = pdop })) (Err QualityNotFinite) ≡ cond (not d) (Err QualityNotFinite) (Ok (record { chi = chi; pdop = pdop }))
           last true = refl
           last false = refl
 
   -- by the tests that the code makes of the two figures
-  module _ (chi pdop : Float) (c-is : chi ≡ chi_of n rows) (p-is : Dilution.Of pdop ≡ dilution_found n rows) (b d : Bool) (b-is : b ≡ finite chi) (d-is : d ≡ finite pdop) where
-    pub quality-rated : (b && d) ≡ true → Rated (record { chi = chi; pdop = pdop }) ≡ quality_of n rows
+  module _ (chi pdop : Float) (c-is : chi ≡ chi_of n rows) (p-is : Ok pdop ≡ dilution_found n rows) (b d : Bool) (b-is : b ≡ finite chi) (d-is : d ≡ finite pdop) where
+    pub quality-rated : (b && d) ≡ true → Ok (record { chi = chi; pdop = pdop }) ≡ quality_of n rows
     quality-rated e =
         let t : (finite chi && finite pdop) ≡ true = ap₂ ◌&&◌ (sym b-is) (sym d-is) ∙ e in
-        sym (ap (λ (z : Bool). cond z (Rated (record { chi = chi; pdop = pdop })) (Refused QualityNotFinite)) t) ∙ quality-given chi pdop c-is p-is
+        sym (ap (λ (z : Bool). cond {A = Result Figures Refusal} z (Ok (record { chi = chi; pdop = pdop })) (Err QualityNotFinite)) t) ∙ quality-given chi pdop c-is p-is
 
-    pub quality_not_finite : (b && d) ≡ false → Refused QualityNotFinite ≡ quality_of n rows
+    pub quality_not_finite : (b && d) ≡ false → Err QualityNotFinite ≡ quality_of n rows
     quality_not_finite e =
         let t : (finite chi && finite pdop) ≡ false = ap₂ ◌&&◌ (sym b-is) (sym d-is) ∙ e in
-        sym (ap (λ (z : Bool). cond z (Rated (record { chi = chi; pdop = pdop })) (Refused QualityNotFinite)) t) ∙ quality-given chi pdop c-is p-is
+        sym (ap (λ (z : Bool). cond {A = Result Figures Refusal} z (Ok (record { chi = chi; pdop = pdop })) (Err QualityNotFinite)) t) ∙ quality-given chi pdop c-is p-is
 
   -- what is given out is finite
-  pub quality-finite : (f : Figures) → Rated f ≡ quality_of n rows → T (finite f.chi) × T (finite f.pdop)
+  pub quality-finite : (f : Figures) → Ok f ≡ quality_of n rows → T (finite f.chi) × T (finite f.pdop)
   unfolding quality_of figure_rules ruled
   quality-finite f = go accepted (finite (chi_of n rows)) (finite (dilution_of n rows)) refl refl
     where
       go : (b c p : Bool) → c ≡ finite (chi_of n rows) → p ≡ finite (dilution_of n rows)
-          → Rated f ≡ cond (not b) (Refused FitFailed) (cond (not (c && p)) (Refused QualityNotFinite) (Rated (record { chi = chi_of n rows; pdop = dilution_of n rows })))
+          → Ok f ≡ cond (not b) (Err FitFailed) (cond (not (c && p)) (Err QualityNotFinite) (Ok (record { chi = chi_of n rows; pdop = dilution_of n rows })))
           → T (finite f.chi) × T (finite f.pdop)
       go false c p c-is p-is e = absurd (let z : ◌≡◌ {A = ℕ} 0 1 = cc in omega arith)
       go true false p c-is p-is e = absurd (let z : ◌≡◌ {A = ℕ} 0 1 = cc in omega arith)

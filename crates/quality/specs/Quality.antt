@@ -1,4 +1,7 @@
 -- The quality of a fit with n unknowns (wls.rs): chi and the dilution of precision of its rows. A fix and a rated displacement share them. Definitions only.
+use Rattle.std.specs.Prelude.{Result, Ok, Err}
+use Rattle.numeric.specs.declared.refusal.Refusal.{Refusal}
+use Rattle.quality.specs.declared.figures.Figures.{Figures}
 use Rattle.std.specs.Prelude.{ℕ, ◌-◌, max, not, cond, ◌&&◌, List, [], ◌∷◌, eqb, length, Float}
 use Rattle.std.specs.Float.Ieee.Scale.{finite}
 use Rattle.exact.specs.Float.{◌⊕◌, ◌⊗◌, ◌⊘◌, +0, 1·0, bits, whole}
@@ -12,8 +15,6 @@ use Rattle.normal_equations.specs.Nine.{nine}
 use Rattle.normal_equations.specs.Equations.{wide, total, triangle_of}
 use Rattle.normal_equations.specs.declared.row.Row.{Row}
 use Rattle.numeric.specs.Rules.{Rule, rule, ruled}
-use Rattle.quality.specs.declared.figures.Quality.{Quality}
-use Rattle.quality.specs.declared.figures.Quality.TheVariants.{Refused, Rated}
 
 -- the degrees of freedom of so many rows, at least 1
 unfoldable pub freedom_of : ℕ → ℕ → Float
@@ -47,5 +48,5 @@ unfoldable pub figure_rules : ℕ → List Row → List Rule
 figure_rules n rows = pivot_rule n rows ∷ rule QualityNotFinite (not (finite (chi_of n rows) && finite (dilution_of n rows))) ∷ []
 
 -- the two figures of the rows, or why they are refused
-unfoldable pub quality_of : ℕ → List Row → Quality
-quality_of n rows = ruled Refused (figure_rules n rows) (Rated (record { chi = chi_of n rows; pdop = dilution_of n rows }))
+unfoldable pub quality_of : ℕ → List Row → Result Figures Refusal
+quality_of n rows = ruled Err (figure_rules n rows) (Ok (record { chi = chi_of n rows; pdop = dilution_of n rows }))

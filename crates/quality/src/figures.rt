@@ -6,8 +6,9 @@ ghost use Rattle.quality.specs.Steps.{Diluted, Qualified};
 
 use crate::inverse::pdop_of;
 use cholesky::factor::factor_used;
+use normal_equations::columns::Columns;
 use normal_equations::equations::{
-    add_clock, add_triangle, no_corner, put_corner, row_at, unused, with_row,
+    add_clock, add_triangle, no_corner, put_corner, unused, with_row,
 };
 use normal_equations::row::wide;
 use numeric::order::float;
@@ -20,20 +21,6 @@ use root::sqrt::sqrt;
 pub struct Figures {
     pub chi: f64,
     pub pdop: f64,
-}
-
-// The dilution of precision, or the refusal.
-#[derive(Clone, Copy)]
-pub enum Dilution {
-    Refused(Refusal),
-    Of(f64),
-}
-
-// Both figures, or the refusal.
-#[derive(Clone, Copy)]
-pub enum Quality {
-    Refused(Refusal),
-    Rated(Figures),
 }
 
 // Returns the degrees of freedom of so many rows and n unknowns, at least 1.
@@ -65,49 +52,30 @@ pub fn chi_of(sigma: &[f64; 64], residual: &[u64], n: usize) -> f64
 }
 
 // Writes to a the normal equations of the rows without weights, by their lower triangle, over every place of every row.
-fn unweighted_in_full(
-    x: &[f64; 64],
-    y: &[f64; 64],
-    z: &[f64; 64],
-    clock: &[usize; 64],
-    sigma: &[f64; 64],
-    residual: &[u64],
-    n: usize,
-    a: &mut [[f64; 9]; 9],
-)
-    requires { (length residual.now ≤ 64) × (n ≤ 9) }
-    ensures { a.new ≡ spec.unweighted_matrix n (lent_rows x y z clock sigma residual) }
+fn unweighted_in_full(rows: Columns, n: usize, a: &mut [[f64; 9]; 9])
+    requires { n ≤ 9 }
+    ensures { a.new ≡ spec.unweighted_matrix n (lent_rows rows.entry) }
 {
-    let count = residual.len();
+    let count = rows.residual.len();
     unused(n, a);
     let mut e = [0.0; 9];
     for k in 0..count {
-        let row = row_at(x, y, z, clock, sigma, residual, k);
-        wide(row, &mut e);
+        wide(rows.row_at(k), &mut e);
         add_triangle(n, &e, &e, a);
     }
 }
 
 // Writes the same over the places of a row that are not 0: x, y, z and the clock. Zeros add nothing where every number is finite.
 // Returns false, with a of no use, where a clock is below 3, at n or beyond, or a number is not finite.
-fn unweighted_by_places(
-    x: &[f64; 64],
-    y: &[f64; 64],
-    z: &[f64; 64],
-    clock: &[usize; 64],
-    sigma: &[f64; 64],
-    residual: &[u64],
-    n: usize,
-    a: &mut [[f64; 9]; 9],
-) -> bool
-    requires { (length residual.now ≤ 64) × (3 ≤ n) × (n ≤ 9) }
-    ensures { result ≡ true → a.new ≡ spec.unweighted_matrix n (lent_rows x y z clock sigma residual) }
+fn unweighted_by_places(rows: Columns, n: usize, a: &mut [[f64; 9]; 9]) -> bool
+    requires { (3 ≤ n) × (n ≤ 9) }
+    ensures { result ≡ true → a.new ≡ spec.unweighted_matrix n (lent_rows rows.entry) }
 {
     unused(n, a);
-    let count = residual.len();
+    let count = rows.residual.len();
     let mut s = no_corner();
     for k in 0..count {
-        let r = row_at(x, y, z, clock, sigma, residual, k);
+        let r = rows.row_at(k);
         let i = r.clock;
         if i < 3 {
             return false;
@@ -124,73 +92,41 @@ fn unweighted_by_places(
 }
 
 // Writes to a the normal equations of the rows without weights, by their lower triangle: over the places that are not 0, or over all where that is not enough.
-fn unweighted_matrix(
-    x: &[f64; 64],
-    y: &[f64; 64],
-    z: &[f64; 64],
-    clock: &[usize; 64],
-    sigma: &[f64; 64],
-    residual: &[u64],
-    n: usize,
-    a: &mut [[f64; 9]; 9],
-)
-    requires { (length residual.now ≤ 64) × (3 ≤ n) × (n ≤ 9) }
-    ensures { a.new ≡ spec.unweighted_matrix n (lent_rows x y z clock sigma residual) }
+fn unweighted_matrix(rows: Columns, n: usize, a: &mut [[f64; 9]; 9])
+    requires { (3 ≤ n) × (n ≤ 9) }
+    ensures { a.new ≡ spec.unweighted_matrix n (lent_rows rows.entry) }
 {
-    if unweighted_by_places(x, y, z, clock, sigma, residual, n, a) {
+    if unweighted_by_places(rows, n, a) {
         return;
     }
-    unweighted_in_full(x, y, z, clock, sigma, residual, n, a);
+    unweighted_in_full(rows, n, a);
 }
 
 // Returns pdop of the rows, or the refusal by 10 where a pivot of their unweighted matrix is refused.
-pub fn dilution_of(
-    x: &[f64; 64],
-    y: &[f64; 64],
-    z: &[f64; 64],
-    clock: &[usize; 64],
-    sigma: &[f64; 64],
-    residual: &[u64],
-    n: usize,
-) -> Dilution
-    requires { (length residual.now ≤ 64) × (3 ≤ n) × (n ≤ 9) }
-    ensures { Diluted n (lent_rows x y z clock sigma residual) result }
+pub fn dilution_of(rows: Columns, n: usize) -> Result<f64, Refusal>
+    requires { (3 ≤ n) × (n ≤ 9) }
+    ensures { Diluted n (lent_rows rows.entry) result }
 {
     let mut a = [[0.0; 9]; 9];
-    unweighted_matrix(x, y, z, clock, sigma, residual, n, &mut a);
+    unweighted_matrix(rows, n, &mut a);
     let mut l = [[0.0; 9]; 9];
     if factor_used(n, &a, &mut l) {
-        let pdop = pdop_of(n, &l);
-        return Dilution::Of(pdop);
+        Ok(pdop_of(n, &l))
+    } else {
+        Err(Refusal::FitFailed)
     }
-    Dilution::Refused(Refusal::FitFailed)
 }
 
 // Returns chi and pdop of the rows, or the refusal: 10 where a pivot of their unweighted matrix is refused, 14 where a figure is not finite.
-pub fn quality_of(
-    x: &[f64; 64],
-    y: &[f64; 64],
-    z: &[f64; 64],
-    clock: &[usize; 64],
-    sigma: &[f64; 64],
-    residual: &[u64],
-    n: usize,
-) -> Quality
-    requires { (length residual.now ≤ 64) × (3 ≤ n) × (n ≤ 9) }
-    ensures { Qualified n (lent_rows x y z clock sigma residual) result }
+pub fn quality_of(rows: Columns, n: usize) -> Result<Figures, Refusal>
+    requires { (3 ≤ n) × (n ≤ 9) }
+    ensures { Qualified n (lent_rows rows.entry) result }
 {
-    let chi = chi_of(sigma, residual, n);
-    let dilution = dilution_of(x, y, z, clock, sigma, residual, n);
-    match dilution {
-        Dilution::Refused(r) => Quality::Refused(r),
-        Dilution::Of(pdop) => {
-            if is_finite(chi) & is_finite(pdop) {
-                return Quality::Rated(Figures {
-                    chi: chi,
-                    pdop: pdop,
-                });
-            }
-            Quality::Refused(Refusal::QualityNotFinite)
-        }
+    let chi = chi_of(rows.sigma, rows.residual, n);
+    let pdop = dilution_of(rows, n)?;
+    if is_finite(chi) & is_finite(pdop) {
+        Ok(Figures { chi, pdop })
+    } else {
+        Err(Refusal::QualityNotFinite)
     }
 }

@@ -8,6 +8,7 @@ use lib.Dec.{eqb}
 use lib.ListN.{length, get_or, set, take, drop}
 use lib.Seq.{get_or-set_same, get_or-set_other}
 use lib.IntN.{ℤ}
+use Rattle.std.specs.Prelude.{Some, None}
 use lib.Ieee.{Float}
 use borrow.Author.Tests.{eqb-true, eqb-false, lt-ltb, le-ltb}
 use Rattle.lists.proofs.Walk.{places-length, places-at, places-all, first-yes, first-no, first-end}
@@ -54,20 +55,21 @@ module _ (g : ℕ) (ss : List ℕ) (ts : List ℤ) (fs : List Float) where
     unfolding first_pair
     sought-next n receiver dt state gs i = first-no _ _ (carriers-long ss ts fs) j blank t _ _ [] (inv receiver dt state gs i) (here state gs i) n
 
-    pub sought-here : r ≡ true → Finds g ss ts fs j
+    pub sought-here : r ≡ true → Finds g ss ts fs (Some j)
     unfolding first_pair
     sought-here y =
         record {
+          within = t;
           found = λ receiver dt state gs i.
-              rw (lt-ltb j (length ss) t)
               (sym (first-yes _ _ (carriers-long ss ts fs) j blank t _ _ [] (inv receiver dt state gs i) (here state gs i) y) ∙ ap (λ (p : Carrier). pair_of receiver dt (carrier_with g state gs i) p ∷ []) (sym (carrier-is ss ts fs t refl)));
         }
 
-  pub sought-end : {j : ℕ} → Sought g ss ts fs j → length ss ≤ j → Finds g ss ts fs (length ss)
+  pub sought-end : {j : ℕ} → Sought g ss ts fs j → length ss ≤ j → Finds g ss ts fs None
   unfolding first_pair
   sought-end inv l =
       record {
-        found = λ receiver dt state gs i. rw (le-ltb (length ss) (length ss) (omega arith)) (sym (first-end _ _ (carriers-long ss ts fs) _ _ _ (inv receiver dt state gs i) l));
+        within = tt;
+        found = λ receiver dt state gs i. sym (first-end _ _ (carriers-long ss ts fs) _ _ _ (inv receiver dt state gs i) l);
       }
 
 -- ---- signals that are written one after the other

@@ -46,13 +46,13 @@ module _ (ss : List ℕ) (ts : List ℤ) (fs : List Float) (n : ℕ) (long : len
       (places-ext (carrier_in (take n ss) ts fs) g n (λ k l. ap (λ (s : ℕ). carrier_with s (get_or ts k (pos 0)) fs k) (get_d_take ss n k l) ∙ all k l)))
 
 -- the columns of an epoch: its signals with its states and floats are the epoch
-module _ (cs vs bs : List ℕ) (ts : List ℤ) (fs : List Float) (n : ℕ) (ss : List ℕ) (h : Signalled cs vs bs n ss) (few : n ≤ 64) (vl : (i : ℕ) → get_or vs i 0 < 2 ^ 16) (bl : (i : ℕ) → get_or bs i 0 < 2 ^ 32) where
-  pub signalled-fits : n ≤ length ts → 6 * n ≤ length fs → ((i : ℕ) → get_or cs i 0 < 2 ^ 8) → SignalsFit (take n ss) ts fs
-  signalled-fits t f cl = cut_fits ss ts fs n h.long few t f (λ i l. rw (h.all i l) (signal-small (get_or cs i 0) (get_or vs i 0) (get_or bs i 0) (vl i) (bl i) (cl i)))
+module _ (cs vs bs : List ℕ) (ts : List ℤ) (fs : List Float) (n : ℕ) (ss : List ℕ) (h : Signalled cs vs bs n ss) (few : n ≤ 64) where
+  pub signalled-fits : n ≤ length ts → 6 * n ≤ length fs → SignalsFit (take n ss) ts fs
+  signalled-fits t f = cut_fits ss ts fs n h.long few t f (λ i l. rw (h.all i l) (signal-small (get_or cs i 0) (get_or vs i 0) (get_or bs i 0) (h.svid i l) (h.band i l) (h.constellation i l)))
 
   carrier-at-is : (i : ℕ) → i < n → carrier_in ss ts fs i ≡ carrier_at (carrier_columns cs vs bs ts fs) i
   unfolding carrier_with carrier_at
-  carrier-at-is i l = rw (h.all i l, constellation-is (get_or cs i 0) (get_or vs i 0) (get_or bs i 0) (vl i) (bl i), svid-is (get_or cs i 0) (get_or vs i 0) (get_or bs i 0) (vl i) (bl i), band-is (get_or cs i 0) (get_or vs i 0) (get_or bs i 0) (vl i) (bl i))
+  carrier-at-is i l = rw (h.all i l, constellation-is (get_or cs i 0) (get_or vs i 0) (get_or bs i 0) (h.svid i l) (h.band i l), svid-is (get_or cs i 0) (get_or vs i 0) (get_or bs i 0) (h.svid i l) (h.band i l), band-is (get_or cs i 0) (get_or vs i 0) (get_or bs i 0) (h.svid i l) (h.band i l))
 
   pub signalled-is : epoch_in (take n ss) ts fs ≡ epoch_of (carrier_columns cs vs bs ts fs) n
   signalled-is = cut-is ss ts fs n h.long few (carrier_at (carrier_columns cs vs bs ts fs)) carrier-at-is

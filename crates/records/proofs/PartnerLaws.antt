@@ -3,26 +3,19 @@ use mathlib.Core.Path.{◌≡◌}
 use mathlib.Core.Bool.{Bool, true, cond, ◌&&◌}
 use mathlib.Core.List.{List, [], ◌∷◌}
 use Prim.Native.Nat.{ℕ, ◌≤◌, ◌<◌}
-use lib.Dec.{ltb}
+use Rattle.std.specs.Prelude.{Option}
 use lib.ListN.{length}
 use lib.IntN.{ℤ}
 use lib.Ieee.{Float, le}
-use borrow.Author.Tests.{lt-ltb, le-ltb}
 use Rattle.numeric.specs.declared.vec3.Vec3.{Vec3}
 use Rattle.records.specs.Record.{usable}
 use Rattle.records.specs.Signals.{carrier_with, carrier_in, carriers_in}
-use Rattle.records.specs.Steps.{looked_at, Finds}
+use Rattle.records.specs.Steps.{looked_at, pair_with, Finds}
 use Rattle.records.specs.Pair.{pair_of, first_pair}
 use Rattle.records.specs.declared.record.Carrier.{Carrier}
 use Rattle.records.specs.declared.pair.Profile.{Profile}
 use Rattle.records.proofs.PairLaws.{given_by, pair-tried}
 
-module _ (receiver : Vec3) (mask dt : Float) (profile : Profile) (ps : List ℕ) (pt : List ℤ) (pf : List Float) (g : ℕ) (state : ℤ) (cf : List Float) (i : ℕ) (c : Carrier) (e : c ≡ carrier_with g state cf i) {r : Bool} (is : r ≡ ((usable c && le mask c.elevation) && looked_at profile c)) (y : r ≡ true) {j : ℕ} (f : Finds g ps pt pf j) where
-  first_by : first_pair receiver dt (carriers_in ps pt pf) c ≡ cond (ltb j (length ps)) (pair_of receiver dt c (carrier_in ps pt pf j) ∷ []) []
-  first_by = rw e (f.found receiver dt state cf i)
-
-  pub given-none : length ps ≤ j → given_by receiver mask dt profile (carriers_in ps pt pf) c ≡ []
-  given-none l = pair-tried receiver mask dt profile (carriers_in ps pt pf) c is y (rw (le-ltb j (length ps) l) at first_by)
-
-  pub given-one : j < length ps → given_by receiver mask dt profile (carriers_in ps pt pf) c ≡ pair_of receiver dt c (carrier_in ps pt pf j) ∷ []
-  given-one l = pair-tried receiver mask dt profile (carriers_in ps pt pf) c is y (rw (lt-ltb j (length ps) l) at first_by)
+module _ (receiver : Vec3) (mask dt : Float) (profile : Profile) (ps : List ℕ) (pt : List ℤ) (pf : List Float) (g : ℕ) (state : ℤ) (cf : List Float) (i : ℕ) (c : Carrier) (e : c ≡ carrier_with g state cf i) {r : Bool} (is : r ≡ ((usable c && le mask c.elevation) && looked_at profile c)) (y : r ≡ true) where
+  pub given-found : {o : Option ℕ} → Finds g ps pt pf o → given_by receiver mask dt profile (carriers_in ps pt pf) c ≡ pair_with (λ j. pair_of receiver dt c (carrier_in ps pt pf j)) o
+  given-found {o} f = pair-tried receiver mask dt profile (carriers_in ps pt pf) c is y (rw e (f.found receiver dt state cf i))

@@ -1,11 +1,12 @@
 -- What a call is lent, before it and after it. Definitions only.
-use Rattle.std.specs.Prelude.{ℕ, List, ℤ, Float}
-use Rattle.std.specs.Borrow.{Bor}
+use Rattle.std.specs.Prelude.{ℕ, List, ℤ}
 use Rattle.lists.specs.Memory.{before, Memory, LentNumbers, LentFloats}
 use Rattle.numeric.specs.Vec3.{vector_at}
 use Rattle.numeric.specs.declared.vec3.Vec3.{Vec3}
 use Rattle.records.specs.Carriers.{CarrierColumns, carrier_columns}
-use Rattle.records.specs.Signals.{carriers_in, epoch_in, SignalsFit}
+use Rattle.records.specs.Signals.{carrier_in, carriers_in, epoch_in}
+use Rattle.records.specs.declared.carriers.Carriers.{Carriers}
+use Rattle.records.specs.declared.columns.EpochColumns.{EpochColumns}
 use Rattle.records.specs.declared.record.Carrier.{Carrier}
 use Rattle.records.specs.declared.record.Epoch.{Epoch}
 
@@ -17,13 +18,16 @@ lent_columns constellation svid band state floats = carrier_columns (before cons
 abbrev pub lent_vector : LentFloats → Vec3
 lent_vector v = vector_at (before v) 0
 
--- the carriers of signals, states and floats, and their epoch
-abbrev pub lent_carriers : LentNumbers → Memory (List ℤ) → LentFloats → List Carrier
-lent_carriers ss ts fs = carriers_in (before ss) (before ts) (before fs)
+-- the columns of an epoch
+abbrev pub epoch_columns : EpochColumns → CarrierColumns
+epoch_columns c = carrier_columns c.constellation.now c.svid.now c.band.now c.state.now c.floats.now
 
-abbrev pub lent_signals : LentNumbers → Memory (List ℤ) → LentFloats → Epoch
-lent_signals ss ts fs = epoch_in (before ss) (before ts) (before fs)
+-- the carriers of signals, states and floats, their epoch, and carrier i
+abbrev pub lent_carriers : Carriers → List Carrier
+lent_carriers c = carriers_in c.signals.now c.states.now c.floats.now
 
--- the condition that they fit
-abbrev pub SignalsLent : Bor (List ℕ) → Bor (List ℤ) → Bor (List Float) → Type 0
-SignalsLent ss ts fs = SignalsFit ss.now ts.now fs.now
+abbrev pub lent_signals : Carriers → Epoch
+lent_signals c = epoch_in c.signals.now c.states.now c.floats.now
+
+abbrev pub lent_carrier : Carriers → ℕ → Carrier
+lent_carrier c i = carrier_in c.signals.now c.states.now c.floats.now i

@@ -4,7 +4,7 @@ use Rattle.std.specs.Float.Ieee.{neg, le}
 use Rattle.std.specs.Float.Ieee.Scale.{finite}
 use Rattle.exact.specs.Float.{whole}
 use Rattle.numeric.specs.Real.{in_range}
-use Rattle.numeric.specs.declared.vec3.Vec3.{Vec3}
+use Rattle.numeric.specs.Vec3.{vector_in_range}
 use Rattle.records.specs.declared.record.Carrier.{Carrier}
 use Rattle.records.specs.declared.record.Epoch.{Epoch}
 use Rattle.records.specs.declared.record.Observation.{Observation}
@@ -23,21 +23,17 @@ keep test x = cond (test x) (x ∷ []) []
 
 -- ---- refusal 4 of a record
 
--- each coordinate is finite and not above 1e9 in magnitude
-unfoldable pub placeable : Vec3 → Bool
-placeable v = in_range v.x && in_range v.y && in_range v.z
-
 -- from -90 to 90 degrees
 unfoldable pub is_elevation : Float → Bool
 is_elevation x = le (neg (whole 90)) x && le x (whole 90)
 
 -- A carrier passes if its floats do. An adr that is not finite makes it unusable and nothing more.
 unfoldable pub sound_carrier : Carrier → Bool
-sound_carrier c = placeable c.satellite && in_range c.rate && is_elevation c.elevation && (in_range c.adr || not (finite c.adr))
+sound_carrier c = vector_in_range c.satellite && in_range c.rate && is_elevation c.elevation && (in_range c.adr || not (finite c.adr))
 
 -- An observation passes if its floats do, but for `modelled`, which is never looked at.
 unfoldable pub sound_observation : Observation → Bool
-sound_observation o = in_range o.pseudorange && placeable o.satellite && is_elevation o.elevation
+sound_observation o = in_range o.pseudorange && vector_in_range o.satellite && is_elevation o.elevation
 
 -- ---- carriers that can be differenced
 

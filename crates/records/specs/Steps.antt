@@ -1,7 +1,7 @@
 -- What only contracts of inner functions cite. Definitions only.
-use Rattle.std.specs.Prelude.{ℕ, ◌+◌, ◌*◌, ◌^◌, ◌<◌, Bool, true, cond, List, [], ◌∷◌, ltb, ◌≡◌, get_or, length, Float, ℤ}
+use Rattle.std.specs.Prelude.{ℕ, ◌+◌, ◌*◌, ◌^◌, ◌<◌, Bool, true, List, [], ◌∷◌, Option, Some, None, IfSome, ◌≡◌, get_or, length, Float, ℤ}
 use Rattle.std.specs.Borrow.{Bor}
-use Rattle.lists.specs.Memory.{before, Memory, LentNumbers, LentFloats}
+use Rattle.lists.specs.Memory.{before, LentNumbers, LentFloats}
 use Rattle.lists.specs.Walk.{places}
 use Rattle.records.specs.declared.record.Carrier.{Carrier}
 use Rattle.records.specs.declared.pair.Profile.{Profile}
@@ -40,27 +40,24 @@ pairs_in x y z constellation elevation observed = places (pair_in x y z constell
 abbrev pub lent_pairs : LentFloats → LentFloats → LentFloats → LentNumbers → LentFloats → LentFloats → List Pair
 lent_pairs x y z constellation elevation observed = pairs_in (before x) (before y) (before z) (before constellation) (before elevation) (before observed)
 
--- carrier i of lent signals, states and floats
-abbrev pub lent_carrier : LentNumbers → Memory (List ℤ) → LentFloats → ℕ → Carrier
-lent_carrier ss ts fs i = carrier_in (before ss) (before ts) (before fs) i
+-- what the place of a partner gives, if there is one
+abbrev pub pair_with : (ℕ → Pair) → Option ℕ → List Pair
+pair_with f None = []
+pair_with f (Some j) = f j ∷ []
 
--- the condition that they hold it
-abbrev pub HasCarrier : Bor (List ℕ) → Bor (List ℤ) → Bor (List Float) → ℕ → Type 0
-HasCarrier ss ts fs i = (i < length ss.now) × (get_or ss.now i 0 < 2 ^ 56) × (i < length ts.now) × (6 * i + 5 < length fs.now)
-
--- room for the signals, states and floats of 64 carriers
-abbrev pub HasRoom : Bor (List ℕ) → Bor (List ℤ) → Bor (List Float) → Type 0
-HasRoom ss ts fs = (length ss.now ≡ 64) × (length ts.now ≡ 64) × (length fs.now ≡ 384)
-
--- r is where the first previous carrier stands that is usable and of the signal g, or past the last
-pub record Finds (g : ℕ) (ss : List ℕ) (ts : List ℤ) (fs : List Float) (r : ℕ) : Type 0 where
+-- r is where the first previous carrier stands that is usable and of the signal g, if there is one
+pub record Finds (g : ℕ) (ss : List ℕ) (ts : List ℤ) (fs : List Float) (r : Option ℕ) : Type 0 where
+  pub within : IfSome r (λ j. j < length ss)
   pub found :
       (receiver : Vec3) (dt : Float) (state : ℤ) (gs : List Float) (i : ℕ) →
-      first_pair receiver dt (carriers_in ss ts fs) (carrier_with g state gs i) ≡ cond (ltb r (length ss)) (pair_of receiver dt (carrier_with g state gs i) (carrier_in ss ts fs r) ∷ []) []
+      first_pair receiver dt (carriers_in ss ts fs) (carrier_with g state gs i) ≡ pair_with (λ j. pair_of receiver dt (carrier_with g state gs i) (carrier_in ss ts fs j)) r
 
--- the first n of 64 signals are those of the columns
+-- the first n of 64 signals are those of the columns, whose numbers fit their types
 pub record Signalled (cs vs bs : List ℕ) (n : ℕ) (ss : List ℕ) : Type 0 where
   pub long : length ss ≡ 64
+  pub constellation : (i : ℕ) → i < n → get_or cs i 0 < 2 ^ 8
+  pub svid : (i : ℕ) → i < n → get_or vs i 0 < 2 ^ 16
+  pub band : (i : ℕ) → i < n → get_or bs i 0 < 2 ^ 32
   pub all : (i : ℕ) → i < n → get_or ss i 0 ≡ signal (get_or cs i 0) (get_or vs i 0) (get_or bs i 0)
 
 -- place i holds the carrier c, and those before it hold what they held

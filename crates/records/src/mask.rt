@@ -15,15 +15,13 @@ pub fn above_mask(o: Observations, mask: f64) -> Observations
 {
     let mut out = o;
     out.count = 0;
-    let mut i: usize = 0;
-    while i < o.count {
+    for i in 0..o.count {
         let x = o.observation[i];
         if mask <= x.elevation {
             let k = out.count;
             out.observation[k] = x;
             out.count = k + 1;
         }
-        i += 1;
     }
     out
 }
@@ -35,11 +33,9 @@ pub fn clocks_of(o: Observations) -> Clocks
 {
     let mut k = Clocks::new();
     let n = o.count;
-    let mut i: usize = 0;
-    while i < n {
+    for i in 0..n {
         let x = o.observation[i];
         k = k.given(x.constellation);
-        i += 1;
     }
     k
 }

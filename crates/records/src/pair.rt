@@ -1,13 +1,13 @@
 // The carrier pairs of two epochs.
-ghost use Rattle.std.specs.Prelude.{◌≡◌, true, ◌&&◌, eqb, get_or};
+ghost use Rattle.std.specs.Prelude.{◌≡◌, ◌<◌, true, ◌&&◌, eqb, get_or, length};
 ghost use Rattle.std.specs.Float.Ieee.{le};
 ghost use Rattle.records.specs.Record.{usable};
-ghost use Rattle.records.specs.Lent.{lent_carriers, SignalsLent};
+ghost use Rattle.records.specs.Lent.{lent_carrier, lent_carriers};
 ghost use Rattle.records.specs.City.{looked};
-ghost use Rattle.records.specs.Steps.{looked_at, lent_carrier, HasCarrier, Finds};
+ghost use Rattle.records.specs.Steps.{looked_at, Finds};
 ghost use Rattle.records.specs.Pair as spec;
 
-use crate::carriers::carrier_in;
+use crate::carriers::Carriers;
 use crate::record::{Carrier, is_usable};
 use numeric::sight::{is_on_receiver, sights_of};
 use numeric::vec3::Vec3;
@@ -38,13 +38,8 @@ pub struct Pairs {
 pub fn no_pairs() -> Pairs
     ensures { (result.count ≡ 0) × (result.seen ≡ true) }
 {
-    let zero = Vec3 {
-        x: 0.0,
-        y: 0.0,
-        z: 0.0,
-    };
     let nothing = Pair {
-        unit: zero,
+        unit: Vec3::ZERO,
         constellation: 0,
         elevation: 0.0,
         observed: 0.0,
@@ -87,31 +82,27 @@ pub fn is_wanted(c: Carrier, mask: f64, profile: Profile) -> bool
 }
 
 // Whether previous carrier j has this signal and is usable. Most have another signal, so that is asked first.
-fn is_partner(signal: u64, signals: &[u64], states: &[i32], floats: &[f64], j: usize) -> bool
-    requires { HasCarrier signals states floats j }
-    ensures { result ≡ (eqb (get_or signals.now j 0) signal && usable (lent_carrier signals states floats j)) }
+fn is_partner(signal: u64, previous: Carriers, j: usize) -> bool
+    requires { j < length previous.signals.now }
+    ensures { result ≡ (eqb (get_or previous.entry.signals.now j 0) signal && usable (lent_carrier previous.entry j)) }
 {
-    if signals[j] != signal {
+    if previous.signals[j] != signal {
         return false;
     }
-    let p = carrier_in(signals, states, floats, j);
+    let p = previous.carrier(j);
     is_usable(p)
 }
 
-// Where the first of them stands, or past the last.
-fn partner_in(signal: u64, signals: &[u64], states: &[i32], floats: &[f64]) -> usize
-    requires { SignalsLent signals states floats }
-    ensures { Finds signal signals.now states.now floats.now result }
+// Where the first of them stands.
+fn partner_in(signal: u64, previous: Carriers) -> Option<usize>
+    ensures { Finds signal previous.entry.signals.now previous.entry.states.now previous.entry.floats.now result }
 {
-    let n = signals.len();
-    let mut j: usize = 0;
-    while j < n {
-        if is_partner(signal, signals, states, floats, j) {
-            return j;
+    for j in 0..previous.signals.len() {
+        if is_partner(signal, previous, j) {
+            return Some(j);
         }
-        j += 1;
     }
-    n
+    None
 }
 
 // The pair of the current carrier c and the previous carrier p.
@@ -147,37 +138,21 @@ pub fn is_seen(q: Pair) -> bool
 
 // The pairs of two epochs, of the carriers that the profile has looked at.
 pub fn pairs_in(
-    previous_signals: &[u64],
-    previous_states: &[i32],
-    previous_floats: &[f64],
-    current_signals: &[u64],
-    current_states: &[i32],
-    current_floats: &[f64],
+    previous: Carriers,
+    current: Carriers,
     receiver: Vec3,
     mask: f64,
     dt: f64,
     profile: Profile,
 ) -> Pairs
-    requires signals_lent { SignalsLent previous_signals previous_states previous_floats }
-    requires signals_lent_2 { SignalsLent current_signals current_states current_floats }
-    ensures { spec.Paired result (spec.pairs_of receiver mask dt
-        (lent_carriers previous_signals previous_states previous_floats)
-        (looked profile (lent_carriers current_signals current_states current_floats))) }
+    ensures { spec.Paired result (spec.pairs_of receiver mask dt (lent_carriers previous.entry) (looked profile (lent_carriers current.entry))) }
 {
-    let n = current_signals.len();
     let mut out = no_pairs();
-    let mut i: usize = 0;
-    while i < n {
-        let c = carrier_in(current_signals, current_states, current_floats, i);
+    for i in 0..current.signals.len() {
+        let c = current.carrier(i);
         if is_wanted(c, mask, profile) {
-            let j = partner_in(
-                current_signals[i],
-                previous_signals,
-                previous_states,
-                previous_floats,
-            );
-            if j < previous_signals.len() {
-                let p = carrier_in(previous_signals, previous_states, previous_floats, j);
+            if let Some(j) = partner_in(current.signals[i], previous) {
+                let p = previous.carrier(j);
                 let q = pair_of(receiver, dt, c, p);
                 let k = out.count;
                 let seen = out.seen & is_seen(q);
@@ -186,7 +161,6 @@ pub fn pairs_in(
                 out.seen = seen;
             }
         }
-        i += 1;
     }
     out
 }

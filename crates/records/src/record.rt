@@ -44,13 +44,6 @@ pub struct Observations {
     pub observation: [Observation; 64],
 }
 
-// Whether each coordinate is in range.
-pub fn is_placeable(v: Vec3) -> bool
-    ensures { result ≡ spec.placeable v }
-{
-    in_range(v.x) & in_range(v.y) & in_range(v.z)
-}
-
 // Whether x is from -90 to 90 degrees.
 pub fn is_elevation(x: f64) -> bool
     ensures { result ≡ spec.is_elevation x }
@@ -62,7 +55,7 @@ pub fn is_elevation(x: f64) -> bool
 pub fn is_sound(c: Carrier) -> bool
     ensures { result ≡ spec.sound_carrier c }
 {
-    is_placeable(c.satellite)
+    c.satellite.is_in_range()
         & in_range(c.rate)
         & is_elevation(c.elevation)
         & (in_range(c.adr) | !is_finite(c.adr))
@@ -72,7 +65,7 @@ pub fn is_sound(c: Carrier) -> bool
 pub fn is_sound_observation(o: Observation) -> bool
     ensures { result ≡ spec.sound_observation o }
 {
-    in_range(o.pseudorange) & is_placeable(o.satellite) & is_elevation(o.elevation)
+    in_range(o.pseudorange) & o.satellite.is_in_range() & is_elevation(o.elevation)
 }
 
 // Whether the carrier can be differenced: of its three lowest state bits only the first is set, and adr is finite.

@@ -28,11 +28,9 @@ pub fn keep_into(
 {
     let n = p.count;
     let mut d = [0u64; 64];
-    let mut i: usize = 0;
-    while i < n {
+    for i in 0..n {
         let q = p.pair[i];
         d[i] = pattern(q.detector);
-        i += 1;
     }
     let c = float(median(&d[..n]));
     *x = [0.0; 64];
@@ -42,8 +40,7 @@ pub fn keep_into(
     *elevation = [0.0; 64];
     *observed = [0.0; 64];
     let mut k: usize = 0;
-    let mut j: usize = 0;
-    while j < n {
+    for j in 0..n {
         let q = p.pair[j];
         if abs(q.detector - c) < screen {
             x[k] = q.unit.x;
@@ -54,7 +51,6 @@ pub fn keep_into(
             observed[k] = q.observed;
             k += 1;
         }
-        j += 1;
     }
     k
 }
@@ -64,11 +60,8 @@ pub fn clocks_of(constellation: &[u8]) -> Clocks
     ensures { result ≡ clocks_of constellation.now }
 {
     let mut k = Clocks::new();
-    let n = constellation.len();
-    let mut i: usize = 0;
-    while i < n {
-        k = k.given(constellation[i]);
-        i += 1;
+    for c in constellation {
+        k = k.given(*c);
     }
     k
 }

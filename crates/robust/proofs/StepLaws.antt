@@ -1,4 +1,5 @@
 -- The round called by itself, by what its parts answer. Assumes nothing.
+use Rattle.std.specs.Prelude.{Result, Ok, Err}
 use mathlib.Core.Path.{◌≡◌, sym, ap, ◌∙◌, subst}
 use Prim.Native.Nat.{ℕ, ◌≤◌, ◌<◌}
 use native.Mathlib.Omega.{arith}
@@ -11,66 +12,64 @@ use Rattle.lists.specs.Walk.{every}
 use Rattle.numeric.specs.declared.refusal.Refusal.{Refusal}
 use Rattle.numeric.specs.declared.refusal.Refusal.TheVariants.{TooMany, RecordOutOfRange}
 use Rattle.median.specs.Centre.{centre_and_scale_of, centre_scale_of}
-use Rattle.median.specs.declared.centre.Centre.TheVariants.{Refused as NoCentre, Of}
 use Rattle.median.specs.declared.centre.CentreScale.{CentreScale}
 use Rattle.normal_equations.specs.Weight.{weight}
 use Rattle.robust.specs.Round.{RoundOutcome, Refused, Solved, round_by, round_of}
-use Rattle.robust.specs.Steps.{Solving}
-use Rattle.robust.specs.Step.{counted_rows, indexed, padded_step, refused, outcome, step_of}
+use Rattle.robust.specs.Steps.{stepping_of}
+use Rattle.robust.specs.Step.{counted_rows, indexed, padded_step, outcome, step_of}
 use Rattle.normal_equations.specs.Steps.{RoundColumns, rows_in}
 use Rattle.normal_equations.specs.declared.row.Rows.{Rows}
-use Rattle.robust.specs.declared.round.Stepping.{Stepping}
 use Rattle.normal_equations.proofs.ColumnLaws.{residuals-of}
 
 -- at most 64 residuals have a centre
-centre-of : (p : List ℕ) → length p ≤ 64 → centre_scale_of p ≡ Of (centre_and_scale_of p)
+centre-of : (p : List ℕ) → length p ≤ 64 → centre_scale_of p ≡ Ok (centre_and_scale_of p)
 unfolding centre_scale_of
 centre-of p few = rw (le-ltb 64 (length p) few)
 
 -- what the code has of the centre of the columns' residuals
 module _ (columns : RoundColumns) (few : length columns.residual ≤ 64) where
-  pub never-refused : {A : Type 0} (r : Refusal) → NoCentre r ≡ centre_scale_of columns.residual → A
+  pub never-refused : {A : Type 0} (r : Refusal) → Err r ≡ centre_scale_of columns.residual → A
   never-refused r e = absurd (let h = e ∙ centre-of columns.residual few in let z : ◌≡◌ {A = ℕ} 0 1 = cc in omega arith)
 
-  pub round-solving : (n : ℕ) (huber : Float) (c : CentreScale) (a : Stepping) (x y : List Float) → Of c ≡ centre_scale_of columns.residual → Solving (round_by (weight c huber) (rows_in columns) n) a x y → Solving (round_of (rows_in columns) n huber) a x y
+  pub round-solving : (n : ℕ) (huber : Float) (c : CentreScale) {a : Result (List Float) Refusal} → Ok c ≡ centre_scale_of columns.residual → a ≡ stepping_of (round_by (weight c huber) (rows_in columns) n) → a ≡ stepping_of (round_of (rows_in columns) n huber)
   unfolding round_of
-  round-solving n huber c a x y e s =
+  round-solving n huber c {a} e s =
       let h = e ∙ centre-of columns.residual few in
       let q : c ≡ centre_and_scale_of columns.residual = cc in
-      subst (λ z. Solving (round_by (weight z huber) (rows_in columns) n) a x y) (q ∙ ap centre_and_scale_of (sym (residuals-of columns))) s
+      subst (λ z. a ≡ stepping_of (round_by (weight z huber) (rows_in columns) n)) (q ∙ ap centre_and_scale_of (sym (residuals-of columns))) s
 
-module _ (rows : Rows) (n : ℕ) (huber : Float) (dx : List Float) where
-  pub step-many : 64 < rows.count → refused TooMany dx ≡ step_of rows n huber dx
+module _ (rows : Rows) (n : ℕ) (huber : Float) where
+  pub step-many : 64 < rows.count → Err TooMany ≡ step_of rows n huber
   unfolding step_of
   step-many h = rw (lt-ltb 64 rows.count h)
 
   module _ (few : rows.count ≤ 64) where
-    pub step-wide : 9 < n → refused RecordOutOfRange dx ≡ step_of rows n huber dx
+    pub step-wide : 9 < n → Err RecordOutOfRange ≡ step_of rows n huber
     unfolding step_of
     step-wide h = rw (le-ltb 64 rows.count few, lt-ltb 9 n h)
 
     module _ (nine : n ≤ 9) (b : Bool) (is : b ≡ every indexed (counted_rows rows)) where
-      pub step-index : b ≡ false → refused RecordOutOfRange dx ≡ step_of rows n huber dx
+      pub step-index : b ≡ false → Err RecordOutOfRange ≡ step_of rows n huber
       unfolding step_of
       step-index e = rw (le-ltb 64 rows.count few, le-ltb 9 n nine, ← is, e)
 
       module _ (t : b ≡ true) where
-        step-round : outcome n dx (round_of (counted_rows rows) n huber) ≡ step_of rows n huber dx
+        step-round : outcome n (round_of (counted_rows rows) n huber) ≡ step_of rows n huber
         unfolding step_of
         step-round = rw (le-ltb 64 rows.count few, le-ltb 9 n nine, ← is, t)
 
         -- what the round answers
-        module _ (a : Stepping) (x y : List Float) (s : Solving (round_of (counted_rows rows) n huber) a x y) where
-          pub step-done : (z : List Float) → a ≡ Stepping.Done → z ≡ padded_step n y → record { answer = Stepping.Done; dx = z } ≡ step_of rows n huber dx
-          step-done z e h = go (round_of (counted_rows rows) n huber) s ∙ step-round
+        module _ (a : Result (List Float) Refusal) (s : a ≡ stepping_of (round_of (counted_rows rows) n huber)) where
+          pub step-done : (y z : List Float) → a ≡ Ok y → z ≡ padded_step n y → Ok z ≡ step_of rows n huber
+          step-done y z e h = go (round_of (counted_rows rows) n huber) s ∙ step-round
             where
-              go : (o : RoundOutcome) → Solving o a x y → record { answer = Stepping.Done; dx = z } ≡ outcome n dx o
-              go (Refused r) s = absurd (let w : a ≡ Stepping.Refused r = s.answer-is in let z : ◌≡◌ {A = ℕ} 0 1 = cc in omega arith)
-              go (Solved r) s = rw (h, s.step_is)
+              go : (o : RoundOutcome) → a ≡ stepping_of o → Ok z ≡ outcome n o
+              go (Refused r) s = absurd (let z : ◌≡◌ {A = ℕ} 0 1 = cc in omega arith)
+              go (Solved r) s = let q : y ≡ r.step = cc in ap Ok (h ∙ ap (padded_step n) q)
 
-          pub step-refused : (r : Refusal) → a ≡ Stepping.Refused r → refused r dx ≡ step_of rows n huber dx
+          pub step-refused : (r : Refusal) → a ≡ Err r → Err r ≡ step_of rows n huber
           step-refused r e = go (round_of (counted_rows rows) n huber) s ∙ step-round
             where
-              go : (o : RoundOutcome) → Solving o a x y → refused r dx ≡ outcome n dx o
-              go (Refused q) s = let w : a ≡ Stepping.Refused q = s.answer-is in let same : r ≡ q = cc in rw same
-              go (Solved q) s = absurd (let w : a ≡ Stepping.Done = s.answer-is in let z : ◌≡◌ {A = ℕ} 0 1 = cc in omega arith)
+              go : (o : RoundOutcome) → a ≡ stepping_of o → Err r ≡ outcome n o
+              go (Refused q) s = cc
+              go (Solved q) s = absurd (let z : ◌≡◌ {A = ℕ} 0 1 = cc in omega arith)

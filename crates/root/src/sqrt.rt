@@ -44,8 +44,7 @@ fn slow(w: u64) -> u64
     let mut s: u64 = 0;
     let mut rem: u64 = 0;
     let mut rest: u64 = w;
-    let mut i: u64 = 0;
-    while i < 53 {
+    for i in 0..53u64 {
         rem = rem * 4 + rest / 0x0010_0000_0000_0000;
         rest = rest % 0x0010_0000_0000_0000 * 4;
         if rem > s * 4 {
@@ -54,7 +53,6 @@ fn slow(w: u64) -> u64
         } else {
             s = s * 2;
         }
-        i += 1;
     }
     if rem > s { s + 1 } else { s }
 }

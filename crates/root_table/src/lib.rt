@@ -22,16 +22,24 @@ struct Entry {
     root: f64,
 }
 
+impl Entry {
+    // The place with this entry.
+    fn place(self) -> Place
+        ensures { result.square ≡ mul binary64 result.root result.root }
+    {
+        Place {
+            square: self.root * self.root,
+            half: self.half,
+            root: self.root,
+        }
+    }
+}
+
 // The place for the floats from 1/2 up and below 2 whose exponent's lowest digit and first 8 digits after the point are those of i.
 pub fn place_of(i: u64) -> Place
     ensures { result.square ≡ mul binary64 result.root result.root }
 {
-    let e = entry_of(i);
-    Place {
-        square: e.root * e.root,
-        half: e.half,
-        root: e.root,
-    }
+    entry_of(i).place()
 }
 
 // The same for those whose exponent's lowest digit and first 6 digits after the point are those of i: the table of the tangents, apart from the other
@@ -39,12 +47,7 @@ pub fn place_of(i: u64) -> Place
 pub fn wide_place_of(i: u64) -> Place
     ensures { result.square ≡ mul binary64 result.root result.root }
 {
-    let e = wide_entry_of(i);
-    Place {
-        square: e.root * e.root,
-        half: e.half,
-        root: e.root,
-    }
+    wide_entry_of(i).place()
 }
 
 #[rattlefmt::skip]

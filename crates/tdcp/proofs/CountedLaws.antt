@@ -1,4 +1,5 @@
 -- A displacement looks at the counted carriers alone, and refuses every count of rounds above 50 alike. Assumes nothing.
+use Rattle.std.specs.Prelude.{Err}
 use mathlib.Core.Path.{◌≡◌, refl, ap, ◌∙◌}
 use mathlib.Core.Bool.{Bool, false, cond, and-false, ◌||◌, true}
 use Prim.Native.Nat.{◌<◌}
@@ -13,10 +14,8 @@ use Rattle.numeric.specs.Rules.{ruled}
 use Rattle.tdcp.specs.Valid.{settings_pass, epoch_rules}
 use Rattle.tdcp.specs.Displacement.{Input, input, call_fit, displacement_of}
 use Rattle.tdcp.specs.Rated.{quality, answered_by, answered_of}
-use Rattle.tdcp.specs.declared.displacement.Rated.TheVariants as Rated
 use Rattle.tdcp.specs.declared.displacement.Settings.{Settings}
 use Rattle.tdcp.specs.declared.displacement.Interval.{Interval}
-use Rattle.tdcp.specs.declared.displacement.Displacement.TheVariants.{Refused}
 
 module _ (p q c d : Epoch) (since : Interval) (receiver : Vec3) (settings : Settings) (profile : Profile)
     (m : p.count ≡ q.count) (n : c.count ≡ d.count) (e : counted_carriers p ≡ counted_carriers q) (f : counted_carriers c ≡ counted_carriers d) where
@@ -37,16 +36,16 @@ unfolding settings_pass
 many-rounds s h = rw (lt-ltb 50 s.rounds h, and-false)
 
 pub displacement-many-rounds : (i : Input) → 50 < i.settings.rounds
-    → displacement_of i ≡ cond (ltb 64 i.previous.count || ltb 64 i.current.count) (Refused TooMany) (Refused SettingOutOfRange)
+    → displacement_of i ≡ cond (ltb 64 i.previous.count || ltb 64 i.current.count) (Err TooMany) (Err SettingOutOfRange)
 unfolding displacement_of epoch_rules ruled
 displacement-many-rounds i h = rw (many-rounds i.settings h)
 
 pub answer-many-rounds : (wanted : Bool) (i : Input) → 50 < i.settings.rounds
-    → answered_of wanted i ≡ cond (ltb 64 i.previous.count || ltb 64 i.current.count) (Rated.Refused TooMany) (Rated.Refused SettingOutOfRange)
+    → answered_of wanted i ≡ cond (ltb 64 i.previous.count || ltb 64 i.current.count) (Err TooMany) (Err SettingOutOfRange)
 unfolding answered_of
 answer-many-rounds wanted i h = ap (answered_by wanted (quality i)) (displacement-many-rounds i h) ∙ go wanted (ltb 64 i.previous.count || ltb 64 i.current.count)
   where
-    go : (w b : Bool) → answered_by w (quality i) (cond b (Refused TooMany) (Refused SettingOutOfRange)) ≡ cond b (Rated.Refused TooMany) (Rated.Refused SettingOutOfRange)
+    go : (w b : Bool) → answered_by w (quality i) (cond b (Err TooMany) (Err SettingOutOfRange)) ≡ cond b (Err TooMany) (Err SettingOutOfRange)
     go true true = refl
     go true false = refl
     go false true = refl

@@ -1,4 +1,6 @@
 -- The rounds of a displacement, as the code has them. Assumes nothing.
+use Rattle.std.specs.Prelude.{Result, ⊤}
+use Rattle.numeric.specs.declared.refusal.Refusal.{Refusal}
 use mathlib.Core.Path.{◌≡◌, refl, sym, ap, ◌∙◌, subst₂, fun_ext}
 use Prim.Native.Nat.{ℕ, ◌+◌, ◌≤◌, ◌<◌}
 use native.Mathlib.Omega.{arith}
@@ -12,9 +14,8 @@ use Rattle.robust.specs.Round.{round_of}
 use Rattle.normal_equations.specs.Steps.{RoundColumns, columns, rows_in}
 use Rattle.normal_equations.specs.Steps as round
 use Rattle.normal_equations.proofs.ColumnLaws.{filled_at}
-use Rattle.robust.specs.Steps.{Solving}
+use Rattle.robust.specs.Steps.{stepping_of}
 use Rattle.normal_equations.specs.declared.row.Row.{Row}
-use Rattle.robust.specs.declared.round.Stepping.{Stepping}
 use Rattle.clocks.specs.declared.clocks.Clocks.{Clocks}
 use Rattle.records.specs.declared.pair.Pair.{Pair}
 use Rattle.tdcp.specs.declared.displacement.Settings.{Settings}
@@ -38,9 +39,9 @@ module _ (settings : Settings) (k : Clocks) (ps : List Pair) where
   unfolding fit_over
   going = left-start (round_at settings k ps) (3 + k.count) stop_limit settings.rounds (fit_over settings k ps) zeros refl
 
-  pub solving : (x : List Float) (rows : List Row) (n : ℕ) (answer : Stepping) (a b : List Float) → rows ≡ map (row_at settings k x) ps → n ≡ 3 + k.count → Solving (round_of rows n settings.huber) answer a b → Solving (round_at settings k ps x) answer a b
+  pub solving : (x : List Float) (rows : List Row) (n : ℕ) {answer : Result (List Float) Refusal} → rows ≡ map (row_at settings k x) ps → n ≡ 3 + k.count → answer ≡ stepping_of (round_of rows n settings.huber) → answer ≡ stepping_of (round_at settings k ps x)
   unfolding round_at
-  solving x rows n answer a b e h s = subst₂ (λ (r : List Row) (m : ℕ). Solving (round_of r m settings.huber) answer a b) e h s
+  solving x rows n {answer} e h s = subst₂ (λ (r : List Row) (m : ℕ). answer ≡ stepping_of (round_of r m settings.huber)) e h s
 
 -- ---- the rows of a round at the state s, in the columns that the code made
 module _ (settings : Settings) (k : Clocks) (x y z : List Float) (constellation : List ℕ) (elevation observed : List Float) (few : length observed ≤ 64) (s : List Float)

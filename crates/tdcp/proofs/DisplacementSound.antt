@@ -1,4 +1,6 @@
 -- What an accepted displacement has, DEMAND 3 over all of its rounds among it. Assumes nothing.
+use Rattle.numeric.specs.Refusal.{answer_number}
+use Rattle.std.specs.Prelude.{Result, Ok, Err}
 use mathlib.Core.Path.{◌≡◌, refl, sym, ap, ◌∙◌, subst}
 use mathlib.Core.Bool.{Bool, true}
 use Prim.Native.Nat.{ℕ, ◌+◌, ◌-◌, ◌<◌}
@@ -24,16 +26,13 @@ use Rattle.records.specs.declared.pair.Pair.{Pair}
 use Rattle.tdcp.specs.declared.displacement.Settings.{Settings}
 use Rattle.estimate_rounds.specs.Rounds.{concluded}
 use Rattle.median.specs.Sorted.{Each}
-use Rattle.tdcp.specs.Displacement.{Input, row_at, round_at, stop_limit, fit_over, fit_by, pairs, kept_pairs, call_fit, rounds_of, delta_at, end_rules, moved_by, displacement_of, displacement_number, displacement_floats, displacement_counts, Accepted, Promised}
+use Rattle.tdcp.specs.Displacement.{Input, row_at, round_at, stop_limit, fit_over, fit_by, pairs, kept_pairs, call_fit, rounds_of, delta_at, end_rules, moved_by, displacement_of, displacement_floats, displacement_counts, Accepted, Promised}
 use Rattle.tdcp.specs.declared.displacement.Delta.{Delta}
-use Rattle.tdcp.specs.declared.displacement.Displacement.{Displacement}
-use Rattle.tdcp.specs.declared.displacement.Displacement.TheVariants.{Refused, Moved}
-use Rattle.estimate_rounds.specs.declared.rules.Check.TheVariants.{Passed}
 use Rattle.estimate_rounds.proofs.RulesLaws.{checked, passed-of, passed-by, head_passed}
 use Rattle.estimate_rounds.proofs.RoundsSound.{rounds-each, Finished, finished, Placed, placed, three-finite}
 use Rattle.tdcp.proofs.FrontLaws.{kept-few, pairs-enough}
 
-pub never : (d : Delta) (r : Refusal) → Refused r ≡ Moved d → ⊥
+pub never : (d : Delta) (r : Refusal) → Err r ≡ Ok d → ⊥
 never d r e = let z : ◌≡◌ {A = ℕ} 0 1 = cc in omega arith
 
 one-sound : (settings : Settings) (k : Clocks) (ps : List Pair) (x : List Float) (r : Round) → round_at settings k ps x ≡ Solved r → T (finite (at r.step 0)) → SoundRound r
@@ -45,23 +44,23 @@ unfolding round_at
 one-finite settings k ps x = round-residuals (map (row_at settings k x) ps) (3 + k.count) settings.huber (omega arith)
 
 -- what an accepted displacement of the pairs ps came from
-module _ (city : Bool) (settings : Settings) (ps : List Pair) (d : Delta) (e : moved_by city settings ps ≡ Moved d) where
+module _ (city : Bool) (settings : Settings) (ps : List Pair) (d : Delta) (e : moved_by city settings ps ≡ Ok d) where
   abbrev used : ℕ
   used = length (kept_of settings.screen ps)
 
-  abbrev answer : List Float → Displacement
-  answer x = Moved (delta_at used (length ps - used) x)
+  abbrev answer : List Float → Result Delta Refusal
+  answer x = Ok (delta_at used (length ps - used) x)
 
-  abbrev fitted : Displacement
-  fitted = concluded Refused end_rules answer (fit_by settings ps).end
+  abbrev fitted : Result Delta Refusal
+  fitted = concluded Err end_rules answer (fit_by settings ps).end
 
-  counted : Passed ≡ checked (pair_rules city settings ps)
+  counted : (Ok tt) ≡ checked (pair_rules city settings ps)
   unfolding moved_by
-  counted = passed-of Refused fitted (pair_rules city settings ps) e (never d)
+  counted = passed-of Err fitted (pair_rules city settings ps) e (never d)
 
-  ended : Finished end_rules answer (Moved d) (fit_by settings ps).end
+  ended : Finished end_rules answer (Ok d) (fit_by settings ps).end
   unfolding moved_by
-  ended = finished Refused end_rules answer (Moved d) (never d) (fit_by settings ps).end (sym (passed-by Refused fitted (pair_rules city settings ps) counted) ∙ e)
+  ended = finished Err end_rules answer (Ok d) (never d) (fit_by settings ps).end (sym (passed-by Err fitted (pair_rules city settings ps) counted) ∙ e)
 
   same : delta_at used (length ps - used) ended.x ≡ d
   same = let h = ended.answer-is in cc
@@ -80,7 +79,7 @@ module _ (city : Bool) (settings : Settings) (ps : List Pair) (d : Delta) (e : m
         rounds-each P (round_at settings k kept) (3 + k.count) stop_limit (omega arith) (one k kept) settings.rounds zeros ended.x ended.end_is place.first
 
 -- all that a displacement has which its pairs and its rounds let pass, in the city profile or not
-by-accepted : (city : Bool) (i : Input) (d : Delta) → moved_by city i.settings (pairs i) ≡ Moved d → Accepted i d
+by-accepted : (city : Bool) (i : Input) (d : Delta) → moved_by city i.settings (pairs i) ≡ Ok d → Accepted i d
 unfolding rounds_of call_fit
 by-accepted city i d m =
     let s = i.settings in
@@ -99,26 +98,26 @@ by-accepted city i d m =
     }
 
 -- and which 2 to 5 let pass before them
-pub displacement-accepted : (i : Input) (d : Delta) → displacement_of i ≡ Moved d → Accepted i d
+pub displacement-accepted : (i : Input) (d : Delta) → displacement_of i ≡ Ok d → Accepted i d
 unfolding displacement_of
 displacement-accepted i d e =
     let rules = epoch_rules i.previous i.current i.receiver i.settings ++ interval_rules i.since in
     let m = moved_by (is_city i.profile) i.settings (pairs i) in
-    let moved = sym (passed-by Refused m rules (passed-of Refused m rules e (never d))) ∙ e in by-accepted (is_city i.profile) i d moved
+    let moved = sym (passed-by Err m rules (passed-of Err m rules e (never d))) ∙ e in by-accepted (is_city i.profile) i d moved
 
 -- what it gives out is finite
-pub given-finite : (i : Input) (r : Displacement) → ((d : Delta) → r ≡ Moved d → Accepted i d) → every finite (displacement_floats r) ≡ true
+pub given-finite : (i : Input) (r : Result Delta Refusal) → ((d : Delta) → r ≡ Ok d → Accepted i d) → every finite (displacement_floats r) ≡ true
 unfolding every
-given-finite i (Refused r) h = refl
-given-finite i (Moved d) h = let a = h d refl in three-finite d.delta.x d.delta.y d.delta.z a.x-finite a.y-finite a.z-finite
+given-finite i (Err r) h = refl
+given-finite i (Ok d) h = let a = h d refl in three-finite d.delta.x d.delta.y d.delta.z a.x-finite a.y-finite a.z-finite
 
 -- the promise of every call follows from its answer
-pub promised : (i : Input) (r : Displacement) → r ≡ displacement_of i → Promised i r
+pub promised : (i : Input) (r : Result Delta Refusal) → r ≡ displacement_of i → Promised i r
 promised i r e =
-    let accepted : (d : Delta) → r ≡ Moved d → Accepted i d = λ d q. displacement-accepted i d (sym e ∙ q) in
+    let accepted : (d : Delta) → r ≡ Ok d → Accepted i d = λ d q. displacement-accepted i d (sym e ∙ q) in
     record {
       answer = e;
-      number_is = ap displacement_number e;
+      number_is = ap answer_number e;
       floats-are = ap displacement_floats e;
       counts-are = ap displacement_counts e;
       given-finite = given-finite i r accepted;

@@ -1,4 +1,6 @@
 -- Marked trials m6 and m9 of docs/SCOPE.md, and its trials at the edges that come before the rounds, computed. Assumes nothing.
+use Rattle.std.specs.Prelude.{Result, Ok, Err, ⊤}
+use Rattle.numeric.specs.declared.refusal.Refusal.{Refusal}
 use mathlib.Core.Path.{◌≡◌, refl}
 use mathlib.Core.List.{List, [], ◌∷◌, ◌++◌, map}
 use mathlib.Core.Bool.{true, false}
@@ -18,7 +20,7 @@ use Rattle.median.specs.Sorted.{insert_by, sorted_by, median_of}
 use Rattle.median.specs.Centre.{centre_of}
 use Rattle.numeric.specs.Rules.{ruled}
 use Rattle.estimate_rounds.specs.Rules.{row_rules}
-use Rattle.records.specs.Record.{placeable, is_elevation, sound_carrier, unsigned, bit_set, usable, same}
+use Rattle.records.specs.Record.{is_elevation, sound_carrier, unsigned, bit_set, usable, same}
 use Rattle.clocks.specs.Clocks.{none, given, slot, has, appearing, slot_from, clocks_in, clocks_of}
 use Rattle.records.specs.Pair.{pair_of, first_pair, pair_at, pairs_of}
 use Rattle.records.specs.Screen.{centre, within, kept_of}
@@ -29,8 +31,6 @@ use Rattle.records.specs.declared.record.Carrier.{Carrier}
 use Rattle.records.specs.declared.record.Epoch.{Epoch}
 use Rattle.records.specs.declared.pair.Pair.{Pair}
 use Rattle.tdcp.specs.declared.displacement.Settings.{Settings}
-use Rattle.estimate_rounds.specs.declared.rules.Check.{Check}
-use Rattle.estimate_rounds.specs.declared.rules.Check.TheVariants.{Refused, Passed}
 
 -- ---- m6 and m9
 
@@ -70,10 +70,10 @@ abbrev set : Float → Settings
 set m = record { screen = decimal 5 1; sigma_a = 1·0; sigma_b = +0; huber = 1·0; mask = m; rounds = 4; agreement = nan }
 
 -- what the rules but for 15 say at dt seconds
-abbrev said : Float → Float → List Carrier → List Carrier → Check
+abbrev said : Float → Float → List Carrier → List Carrier → Result ⊤ Refusal
 said m dt previous current =
     let i = general (epoch previous) (epoch current) dt origin (set m) in
-    ruled Refused (epoch_rules i.previous i.current i.receiver i.settings ++ interval_rules i.since ++ count_rules i.settings (pairs i)) Passed
+    ruled Err (epoch_rules i.previous i.current i.receiver i.settings ++ interval_rules i.since ++ count_rules i.settings (pairs i)) (Ok tt)
 
 abbrev six : List Carrier
 six = map (used 1) (1 ∷ 2 ∷ 3 ∷ 4 ∷ 5 ∷ 6 ∷ [])
@@ -83,24 +83,24 @@ abbrev twice : List ℕ → List Carrier
 twice gs = map (λ (g : ℕ). used g 1) (gs ++ gs)
 
 pub record Edges : Type 0 where
-  pub nothing : said (whole 10) 1·0 [] [] ≡ Refused TooFewPairs
-  pub five-pairs : said (whole 10) 1·0 six (map (used 1) (1 ∷ 2 ∷ 3 ∷ 4 ∷ 5 ∷ [])) ≡ Refused TooFewPairs
-  pub six-pairs : said (whole 10) 1·0 six six ≡ Passed
-  pub below-mask : said (whole 11) 1·0 six six ≡ Refused TooFewPairs
-  pub too_few-rows : said (whole 10) 1·0 (twice (1 ∷ 2 ∷ 3 ∷ [])) (twice (1 ∷ 2 ∷ 3 ∷ [])) ≡ Refused TooFewRows
-  pub six-slots : said (whole 10) 1·0 (twice (0 ∷ 1 ∷ 2 ∷ 3 ∷ 4 ∷ 5 ∷ [])) (twice (0 ∷ 1 ∷ 2 ∷ 3 ∷ 4 ∷ 5 ∷ [])) ≡ Passed
-  pub seven-slots : said (whole 10) 1·0 (twice (0 ∷ 1 ∷ 2 ∷ 3 ∷ 4 ∷ 5 ∷ 6 ∷ [])) (twice (0 ∷ 1 ∷ 2 ∷ 3 ∷ 4 ∷ 5 ∷ 6 ∷ [])) ≡ Refused TooManySlots
+  pub nothing : said (whole 10) 1·0 [] [] ≡ Err TooFewPairs
+  pub five-pairs : said (whole 10) 1·0 six (map (used 1) (1 ∷ 2 ∷ 3 ∷ 4 ∷ 5 ∷ [])) ≡ Err TooFewPairs
+  pub six-pairs : said (whole 10) 1·0 six six ≡ (Ok tt)
+  pub below-mask : said (whole 11) 1·0 six six ≡ Err TooFewPairs
+  pub too_few-rows : said (whole 10) 1·0 (twice (1 ∷ 2 ∷ 3 ∷ [])) (twice (1 ∷ 2 ∷ 3 ∷ [])) ≡ Err TooFewRows
+  pub six-slots : said (whole 10) 1·0 (twice (0 ∷ 1 ∷ 2 ∷ 3 ∷ 4 ∷ 5 ∷ [])) (twice (0 ∷ 1 ∷ 2 ∷ 3 ∷ 4 ∷ 5 ∷ [])) ≡ (Ok tt)
+  pub seven-slots : said (whole 10) 1·0 (twice (0 ∷ 1 ∷ 2 ∷ 3 ∷ 4 ∷ 5 ∷ 6 ∷ [])) (twice (0 ∷ 1 ∷ 2 ∷ 3 ∷ 4 ∷ 5 ∷ 6 ∷ [])) ≡ Err TooManySlots
   -- a detector that equals the screen is dropped
   pub at-the-screen : length (kept_pairs (general (epoch (used 1 9 ∷ six)) (epoch (carrier 1 9 (decimal 75 1) (pos 1) ∷ six)) 1·0 origin (set (whole 10)))) ≡ 6
-  pub adr_not_finite : said (whole 10) 1·0 six (carrier 1 9 (inf false) (pos 1) ∷ six) ≡ Passed
-  pub adr_too_large : said (whole 10) 1·0 six (carrier 1 9 (whole 1000000001) (pos 0) ∷ six) ≡ Refused RecordOutOfRange
-  pub interval_of-0 : said (whole 10) +0 six six ≡ Refused BadInterval
-  pub interval_of-a-week : said (whole 10) (whole 604800) six six ≡ Passed
-  pub records-65 : said (whole 10) 1·0 (replicate 65 (used 1 1)) six ≡ Refused TooMany
-  pub mask_not_finite : said nan 1·0 six six ≡ Refused SettingOutOfRange
+  pub adr_not_finite : said (whole 10) 1·0 six (carrier 1 9 (inf false) (pos 1) ∷ six) ≡ (Ok tt)
+  pub adr_too_large : said (whole 10) 1·0 six (carrier 1 9 (whole 1000000001) (pos 0) ∷ six) ≡ Err RecordOutOfRange
+  pub interval_of-0 : said (whole 10) +0 six six ≡ Err BadInterval
+  pub interval_of-a-week : said (whole 10) (whole 604800) six six ≡ (Ok tt)
+  pub records-65 : said (whole 10) 1·0 (replicate 65 (used 1 1)) six ≡ Err TooMany
+  pub mask_not_finite : said nan 1·0 six six ≡ Err SettingOutOfRange
 
 pub edges : Edges
-unfolding ruled every first collect abs in_range placeable is_elevation sound_carrier unsigned bit_set usable same has appearing slot_from clocks_in clocks_of pair_of first_pair pair_at pairs_of centre within kept_of settings_pass bad_interval epoch_rules interval_rules few_rules row_rules count_rules sign exponent digits is_nan_pattern is_quiet payload payload_order unordered total_order pattern_of insert_by sorted_by median_of centre_of of_int of_bits to_bits neg add sub mul div le lt eq is_nan
+unfolding ruled every first collect abs in_range is_elevation sound_carrier unsigned bit_set usable same has appearing slot_from clocks_in clocks_of pair_of first_pair pair_at pairs_of centre within kept_of settings_pass bad_interval epoch_rules interval_rules few_rules row_rules count_rules sign exponent digits is_nan_pattern is_quiet payload payload_order unordered total_order pattern_of insert_by sorted_by median_of centre_of of_int of_bits to_bits neg add sub mul div le lt eq is_nan
 edges =
     record {
       nothing = refl;
@@ -124,15 +124,15 @@ edges =
 abbrev ranged : Float → Float → Pair
 ranged now then = record { unit = origin; constellation = 1; elevation = +0; observed = +0; detector = +0; range = now; previous_range = then }
 
-abbrev sighted : List Pair → Check
-sighted ps = ruled Refused (sight_rules (ranged 1·0 1·0 ∷ ps)) Passed
+abbrev sighted : List Pair → Result ⊤ Refusal
+sighted ps = ruled Err (sight_rules (ranged 1·0 1·0 ∷ ps)) (Ok tt)
 
 pub record Ranges : Type 0 where
-  pub all_seen : sighted (ranged (whole 7) 1·0 ∷ []) ≡ Passed
-  pub current-zero : sighted (ranged +0 1·0 ∷ []) ≡ Refused OnReceiver
-  pub previous-zero : sighted (ranged 1·0 (neg +0) ∷ []) ≡ Refused OnReceiver
-  pub current_not_finite : sighted (ranged nan 1·0 ∷ []) ≡ Refused OnReceiver
-  pub previous_not_finite : sighted (ranged 1·0 (inf false) ∷ []) ≡ Refused OnReceiver
+  pub all_seen : sighted (ranged (whole 7) 1·0 ∷ []) ≡ (Ok tt)
+  pub current-zero : sighted (ranged +0 1·0 ∷ []) ≡ Err OnReceiver
+  pub previous-zero : sighted (ranged 1·0 (neg +0) ∷ []) ≡ Err OnReceiver
+  pub current_not_finite : sighted (ranged nan 1·0 ∷ []) ≡ Err OnReceiver
+  pub previous_not_finite : sighted (ranged 1·0 (inf false) ∷ []) ≡ Err OnReceiver
 
 pub ranges : Ranges
 unfolding ruled collect sight_rules on_receiver eq neg of_int of_bits

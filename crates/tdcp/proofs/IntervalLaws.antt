@@ -1,4 +1,5 @@
 -- The seconds of an interval by the code's tests, and that a displacement between two times is the one at the seconds between them. Assumes nothing.
+use Rattle.std.specs.Prelude.{Result, Ok, Err}
 use mathlib.Core.Path.{◌≡◌, refl, sym, ap, ◌∙◌}
 use mathlib.Core.Bool.{Bool, true, false, not, cond, ◌&&◌}
 use mathlib.Core.List.{[], ◌∷◌}
@@ -10,8 +11,6 @@ use Rattle.numeric.specs.declared.refusal.Refusal.{Refusal}
 use Rattle.numeric.specs.declared.refusal.Refusal.TheVariants.{BadTime, BadInterval}
 use Rattle.time.specs.Time.{is_dated, seconds_between, seconds_since}
 use Rattle.time.specs.declared.time.GpsTime.{GpsTime}
-use Rattle.time.specs.declared.time.Seconds.{Seconds}
-use Rattle.time.specs.declared.time.Seconds.TheVariants.{Refused as NoSeconds, Since}
 use Rattle.records.specs.declared.record.Epoch.{Epoch}
 use Rattle.records.specs.declared.pair.Profile.{Profile}
 use Rattle.numeric.specs.Rules.{rule, ruled}
@@ -23,45 +22,45 @@ use Rattle.tdcp.specs.Steps.{given_rules}
 
 -- ---- 13, and then 5
 
-abbrev pub since_of : Interval → Seconds
-since_of since = ruled NoSeconds (rule BadTime (not (is_timed since)) ∷ []) (Since (dt_of since))
+abbrev pub since_of : Interval → Result Float Refusal
+since_of since = ruled Err (rule BadTime (not (is_timed since)) ∷ []) (Ok (dt_of since))
 
 pub since-times : (s t : GpsTime) → seconds_since t s ≡ since_of (Interval.Between s t)
 unfolding seconds_since ruled
 since-times s t = go (is_dated t && is_dated s)
   where
-    go : (b : Bool) → cond b (Since (seconds_between t s)) (NoSeconds BadTime) ≡ cond (not b) (NoSeconds BadTime) (Since (seconds_between t s))
+    go : (b : Bool) → cond b (Ok (seconds_between t s)) (Err BadTime) ≡ cond (not b) (Err BadTime) (Ok (seconds_between t s))
     go true = refl
     go false = refl
 
 module _ (settings : Settings) {sound : Bool} (since : Interval) (set : settings_pass settings ≡ true) (ok : sound ≡ true) where
-  abbrev all : Seconds
-  all = ruled NoSeconds (given_rules settings sound since) (Since (dt_of since))
+  abbrev all : Result Float Refusal
+  all = ruled Err (given_rules settings sound since) (Ok (dt_of since))
 
   abbrev x : Float
   x = dt_of since
 
-  abbrev both : Bool → Seconds
-  both b = cond (not b) (NoSeconds BadTime) (cond (bad_interval x) (NoSeconds BadInterval) (Since x))
+  abbrev both : Bool → Result Float Refusal
+  both b = cond (not b) (Err BadTime) (cond (bad_interval x) (Err BadInterval) (Ok x))
 
   all-is : both (is_timed since) ≡ all
   unfolding given_rules interval_rules ruled
   all-is = rw (set, ok)
 
-  pub not_timed : {r : Refusal} → NoSeconds r ≡ since_of since → NoSeconds r ≡ all
+  pub not_timed : {r : Refusal} → Err r ≡ since_of since → Err r ≡ all
   unfolding ruled
   not_timed {r} e = go (is_timed since) e ∙ all-is
     where
-      go : (b : Bool) → NoSeconds r ≡ cond (not b) (NoSeconds BadTime) (Since x) → NoSeconds r ≡ both b
+      go : (b : Bool) → Err r ≡ cond (not b) (Err BadTime) (Ok x) → Err r ≡ both b
       go true q = absurd (let z : ◌≡◌ {A = ℕ} 0 1 = cc in omega arith)
       go false q = q
 
-  module _ {dt : Float} (e : Since dt ≡ since_of since) where
+  module _ {dt : Float} (e : Ok dt ≡ since_of since) where
     same-dt : dt ≡ x
     unfolding ruled
     same-dt = go (is_timed since) e
       where
-        go : (b : Bool) → Since dt ≡ cond (not b) (NoSeconds BadTime) (Since x) → dt ≡ x
+        go : (b : Bool) → Ok dt ≡ cond (not b) (Err BadTime) (Ok x) → dt ≡ x
         go true q = cc
         go false q = absurd (let z : ◌≡◌ {A = ℕ} 0 1 = cc in omega arith)
 
@@ -69,15 +68,15 @@ module _ (settings : Settings) {sound : Bool} (since : Interval) (set : settings
     unfolding ruled
     timed = go (is_timed since) refl e
       where
-        go : (b : Bool) → is_timed since ≡ b → Since dt ≡ cond (not b) (NoSeconds BadTime) (Since x) → both true ≡ all
+        go : (b : Bool) → is_timed since ≡ b → Ok dt ≡ cond (not b) (Err BadTime) (Ok x) → both true ≡ all
         go true h q = ap both (sym h) ∙ all-is
         go false h q = absurd (let z : ◌≡◌ {A = ℕ} 0 1 = cc in omega arith)
 
-    pub bad_interval_lem : bad_interval dt ≡ true → NoSeconds BadInterval ≡ all
-    bad_interval_lem h = sym (ap (λ (f : Bool). cond f (NoSeconds BadInterval) (Since x)) (ap bad_interval (sym same-dt) ∙ h)) ∙ timed
+    pub bad_interval_lem : bad_interval dt ≡ true → Err BadInterval ≡ all
+    bad_interval_lem h = sym (ap (λ (f : Bool). cond f (Err BadInterval) (Ok x)) (ap bad_interval (sym same-dt) ∙ h)) ∙ timed
 
-    pub good_interval : bad_interval dt ≡ false → Since dt ≡ all
-    good_interval h = ap Since same-dt ∙ sym (ap (λ (f : Bool). cond f (NoSeconds BadInterval) (Since x)) (ap bad_interval (sym same-dt) ∙ h)) ∙ timed
+    pub good_interval : bad_interval dt ≡ false → Ok dt ≡ all
+    good_interval h = ap Ok same-dt ∙ sym (ap (λ (f : Bool). cond f (Err BadInterval) (Ok x)) (ap bad_interval (sym same-dt) ∙ h)) ∙ timed
 
 -- ---- THE LAW: with two times that 13 does not turn away the answer is that of a caller who has the seconds between them as dt
 

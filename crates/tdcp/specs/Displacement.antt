@@ -1,4 +1,7 @@
 -- The displacement of a receiver between two epochs (docs/SCOPE.md, "Displacement", "Times" and "City profile"; tdcp.rs): its rounds, and the answer. Definitions only.
+use Rattle.numeric.specs.Refusal.{answer_number}
+use Rattle.std.specs.Prelude.{Result, Ok, Err}
+use Rattle.numeric.specs.declared.refusal.Refusal.{Refusal}
 use Rattle.std.specs.Prelude.{◌≡◌, ℕ, ◌+◌, ◌-◌, ◌<◌, Bool, true, not, List, [], ◌∷◌, ◌++◌, map, length, T, Float}
 use Rattle.std.specs.Float.Ieee.Scale.{finite}
 use Rattle.exact.specs.Float.{◌⊕◌, ◌⊖◌, ◌⊗◌, decimal}
@@ -29,8 +32,6 @@ use Rattle.tdcp.specs.declared.displacement.Interval.{Interval}
 use Rattle.estimate_rounds.specs.Rounds.{Fit, fit_from, vector, finite_at, concluded}
 use Rattle.median.specs.Sorted.{Each}
 use Rattle.tdcp.specs.declared.displacement.Delta.{Delta}
-use Rattle.tdcp.specs.declared.displacement.Displacement.{Displacement}
-use Rattle.tdcp.specs.declared.displacement.Displacement.TheVariants.{Refused, Moved}
 
 -- the arguments of a call: two epochs, the interval between them, the receiver, the settings, and the profile, which chooses the carriers
 pub record Input : Type 0 where
@@ -114,32 +115,28 @@ end_rules x = rule FitFailed (not (finite_at x)) ∷ []
 
 -- The displacement of carrier pairs: 15, 7 to 9 and in the city profile 20, the rounds over those that the screen keeps, and 10. The screened are the pairs less
 -- those kept.
-unfoldable pub moved_by : Bool → Settings → List Pair → Displacement
+unfoldable pub moved_by : Bool → Settings → List Pair → Result Delta Refusal
 moved_by city settings ps =
     let used = length (kept_of settings.screen ps) in
-    ruled Refused (pair_rules city settings ps) (concluded Refused end_rules (λ x. Moved (delta_at used (length ps - used) x)) (fit_by settings ps).end)
+    ruled Err (pair_rules city settings ps) (concluded Err end_rules (λ x. Ok (delta_at used (length ps - used) x)) (fit_by settings ps).end)
 
 -- 2 to 4 of the epochs, the receiver and the settings, 13 and 5 of the interval, and then the displacement of the pairs
-unfoldable pub displacement_of : Input → Displacement
+unfoldable pub displacement_of : Input → Result Delta Refusal
 displacement_of i =
-    ruled Refused (epoch_rules i.previous i.current i.receiver i.settings ++ interval_rules i.since)
+    ruled Err (epoch_rules i.previous i.current i.receiver i.settings ++ interval_rules i.since)
     (moved_by (is_city i.profile) i.settings (pairs i))
 
 -- ---- an answer in numbers: its number, which is 0 where it is accepted, its floats and its counts; a refusal has its number alone
 
-abbrev pub displacement_number : Displacement → ℕ
-displacement_number (Refused r) = number_of r
-displacement_number (Moved d) = 0
-
 -- dx, dy, dz
-abbrev pub displacement_floats : Displacement → List Float
-displacement_floats (Refused r) = []
-displacement_floats (Moved d) = d.delta.x ∷ d.delta.y ∷ d.delta.z ∷ []
+abbrev pub displacement_floats : Result Delta Refusal → List Float
+displacement_floats (Err r) = []
+displacement_floats (Ok d) = d.delta.x ∷ d.delta.y ∷ d.delta.z ∷ []
 
 -- used, screened
-abbrev pub displacement_counts : Displacement → List ℕ
-displacement_counts (Refused r) = []
-displacement_counts (Moved d) = d.used ∷ d.screened ∷ []
+abbrev pub displacement_counts : Result Delta Refusal → List ℕ
+displacement_counts (Err r) = []
+displacement_counts (Ok d) = d.used ∷ d.screened ∷ []
 
 -- ---- the promise of every call
 -- What an accepted displacement has: it is finite, used plus screened are the pairs counted, used exceeds three plus the slots, demand 3 holds of every round, and
@@ -154,10 +151,10 @@ pub record Accepted (i : Input) (d : Delta) : Type 0 where
   pub finite-residuals : Each FiniteResiduals (rounds_of i)
 
 -- The answer is the definition's for every input, and so are its number, floats and counts. What it returns is finite.
-pub record Promised (i : Input) (r : Displacement) : Type 0 where
+pub record Promised (i : Input) (r : Result Delta Refusal) : Type 0 where
   pub answer : r ≡ displacement_of i
-  pub number_is : displacement_number r ≡ displacement_number (displacement_of i)
+  pub number_is : answer_number r ≡ answer_number (displacement_of i)
   pub floats-are : displacement_floats r ≡ displacement_floats (displacement_of i)
   pub counts-are : displacement_counts r ≡ displacement_counts (displacement_of i)
   pub given-finite : every finite (displacement_floats r) ≡ true
-  pub accepted : (d : Delta) → r ≡ Moved d → Accepted i d
+  pub accepted : (d : Delta) → r ≡ Ok d → Accepted i d

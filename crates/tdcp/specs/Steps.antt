@@ -1,4 +1,8 @@
 -- What the functions of a displacement return in between: rows as columns of numbers, place by place, and answers with or without figures. Definitions only.
+use Rattle.std.specs.Prelude.{Result, Ok, Err, ⊤}
+use Rattle.numeric.specs.declared.refusal.Refusal.{Refusal}
+use Rattle.quality.specs.declared.figures.Figures.{Figures}
+use Rattle.tdcp.specs.declared.displacement.Delta.{Delta}
 use Rattle.std.specs.Prelude.{◌≡◌, ℕ, ◌+◌, ◌<◌, Bool, not, List, ◌∷◌, get_or, length, Float}
 use Rattle.std.specs.Float.{nan}
 use Rattle.exact.specs.Float.{◌⊕◌, ◌⊖◌, ◌⊗◌}
@@ -12,17 +16,13 @@ use Rattle.numeric.specs.declared.refusal.Refusal.TheVariants.{SettingOutOfRange
 use Rattle.numeric.specs.Rules.{Rule, rule, ruled}
 use Rattle.estimate_rounds.specs.Rounds.{concluded, state_after}
 use Rattle.estimate_rounds.specs.Steps.{Ended}
-use Rattle.estimate_rounds.specs.declared.rules.Check.{Check}
 use Rattle.tdcp.specs.Valid.{settings_pass, interval_rules}
 use Rattle.tdcp.specs.declared.displacement.Interval.{Interval}
 use Rattle.tdcp.specs.Displacement.{fit_over, fit_by, delta_at, end_rules}
 use Rattle.tdcp.specs.Rated.{quality_at}
-use Rattle.quality.specs.declared.figures.Quality.{Quality}
 use Rattle.records.specs.Steps.{pairs_in}
 use Rattle.records.specs.Screen.{kept_of, constellations}
 use Rattle.tdcp.specs.declared.displacement.Settings.{Settings}
-use Rattle.tdcp.specs.declared.displacement.Displacement.{Displacement}
-use Rattle.tdcp.specs.declared.displacement.Displacement.TheVariants.{Refused, Moved}
 
 -- ---- the rules
 
@@ -41,13 +41,13 @@ pub record SigmasAt (settings : Settings) (elevation : List Float) (n : ℕ) (si
   pub sigmas : (i : ℕ) → i < n → get_or sigma i nan ≡ elevation_sigma (get_or elevation i nan) settings.sigma_a settings.sigma_b
 
 -- the rounds over the pairs end in r and the state s, whichever pairs have these clocks and sigmas
-pub record FitEnds (settings : Settings) (k : Clocks) (x y z : List Float) (clock : List ℕ) (sigma observed : List Float) (r : Check) (s₀ s : List Float) : Type 0 where
+pub record FitEnds (settings : Settings) (k : Clocks) (x y z : List Float) (clock : List ℕ) (sigma observed : List Float) (r : Result ⊤ Refusal) (s₀ s : List Float) : Type 0 where
   pub ends :
       (constellation : List ℕ) (elevation : List Float) → ClocksAt k constellation (length observed) clock → SigmasAt settings elevation (length observed) sigma →
       Ended (fit_over settings k (pairs_in x y z constellation elevation observed)).end r s₀ s
 
 -- and r is their quality at the state s
-pub record QualityIs (n : ℕ) (x y z : List Float) (clock : List ℕ) (sigma observed s : List Float) (r : Quality) : Type 0 where
+pub record QualityIs (n : ℕ) (x y z : List Float) (clock : List ℕ) (sigma observed s : List Float) (r : Result Figures Refusal) : Type 0 where
   pub quality-is :
       (settings : Settings) (k : Clocks) (constellation : List ℕ) (elevation : List Float) → n ≡ 3 + k.count → ClocksAt k constellation (length observed) clock →
       SigmasAt settings elevation (length observed) sigma → r ≡ quality_at settings k (pairs_in x y z constellation elevation observed) s
@@ -62,19 +62,19 @@ pub record ResidualsAt (x y z : List Float) (clock : List ℕ) (observed s : Lis
   pub residuals : (i : ℕ) → i < length observed → get_or residual i 0 ≡ residual_of (get_or observed i nan) (get_or x i nan) (get_or y i nan) (get_or z i nan) (get_or clock i 0) s
 
 -- the answer at the state x that the rounds reach
-abbrev pub concluded_at : ℕ → ℕ → List Float → Displacement
-concluded_at used screened x = ruled Refused (end_rules x) (Moved (delta_at used screened x))
+abbrev pub concluded_at : ℕ → ℕ → List Float → Result Delta Refusal
+concluded_at used screened x = ruled Err (end_rules x) (Ok (delta_at used screened x))
 
 -- the displacement of the rounds over the pairs ps, with the clocks k, where so many were screened out
-abbrev pub moved_over : Settings → Clocks → List Pair → ℕ → Displacement
-moved_over settings k ps screened = concluded Refused end_rules (λ x. Moved (delta_at (length ps) screened x)) (fit_over settings k ps).end
+abbrev pub moved_over : Settings → Clocks → List Pair → ℕ → Result Delta Refusal
+moved_over settings k ps screened = concluded Err end_rules (λ x. Ok (delta_at (length ps) screened x)) (fit_over settings k ps).end
 
 -- the quality at the end of the rounds over the pairs ps, with the clocks k
-abbrev pub quality_over : Settings → Clocks → List Pair → Quality
+abbrev pub quality_over : Settings → Clocks → List Pair → Result Figures Refusal
 quality_over settings k ps = quality_at settings k ps (state_after (fit_over settings k ps).end zeros)
 
 -- and over those that the screen keeps of the pairs ps
-abbrev pub quality_by : Settings → List Pair → Quality
+abbrev pub quality_by : Settings → List Pair → Result Figures Refusal
 quality_by settings ps =
     let kept = kept_of settings.screen ps in
     quality_at settings (clocks_of (constellations kept)) kept (state_after (fit_by settings ps).end zeros)

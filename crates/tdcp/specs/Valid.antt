@@ -10,7 +10,8 @@ use Rattle.numeric.specs.declared.refusal.Refusal.TheVariants.{TooMany, SettingO
 use Rattle.time.specs.Time.{is_dated, seconds_between}
 use Rattle.numeric.specs.Rules.{Rule, rule}
 use Rattle.estimate_rounds.specs.Rules.{row_rules}
-use Rattle.records.specs.Record.{counted_carriers, placeable, sound_carrier}
+use Rattle.numeric.specs.Vec3.{vector_in_range}
+use Rattle.records.specs.Record.{counted_carriers, sound_carrier}
 use Rattle.records.specs.declared.record.Epoch.{Epoch}
 use Rattle.tdcp.specs.declared.displacement.Settings.{Settings}
 use Rattle.tdcp.specs.declared.displacement.Interval.{Interval}
@@ -26,7 +27,7 @@ unfoldable pub epoch_rules : Epoch → Epoch → Vec3 → Settings → List Rule
 epoch_rules previous current receiver settings =
     rule TooMany (ltb 64 previous.count || ltb 64 current.count)
     ∷ rule SettingOutOfRange (not (settings_pass settings))
-    ∷ rule RecordOutOfRange (not (every sound_carrier (counted_carriers previous) && every sound_carrier (counted_carriers current) && placeable receiver))
+    ∷ rule RecordOutOfRange (not (every sound_carrier (counted_carriers previous) && every sound_carrier (counted_carriers current) && vector_in_range receiver))
     ∷ []
 
 -- the seconds of an interval: so many, or those from the previous time to the current one

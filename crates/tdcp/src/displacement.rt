@@ -1,6 +1,6 @@
 // The displacement between two epochs: its types, the way that every call takes, and the calls by value.
 ghost use Rattle.std.specs.Prelude.{◌≡◌};
-ghost use Rattle.records.specs.Lent.{lent_signals, SignalsLent};
+ghost use Rattle.records.specs.Lent.{lent_signals};
 ghost use Rattle.tdcp.specs.Displacement as spec;
 ghost use Rattle.tdcp.specs.Rated as rated;
 
@@ -8,10 +8,11 @@ use crate::moved::moved_by;
 use crate::valid::seconds_of;
 use numeric::refusal::Refusal;
 use numeric::vec3::Vec3;
-use records::carriers::{epoch_into, sound_in};
+use records::arrays::CarrierArrays;
+use records::carriers::Carriers;
 use records::pair::{Profile, pairs_in};
-use records::record::{Epoch, is_placeable};
-use time::time::{GpsTime, Seconds};
+use records::record::Epoch;
+use time::time::GpsTime;
 
 // Weighting, screening and robustness; `agreement` is neither read nor checked.
 #[derive(Clone, Copy)]
@@ -40,12 +41,6 @@ pub enum Interval {
     Between(GpsTime, GpsTime),
 }
 
-#[derive(Clone, Copy)]
-pub enum Displacement {
-    Refused(Refusal),
-    Moved(Delta),
-}
-
 // A displacement with the quality of its fit: chi, the root of the reduced chi-squared, and pdop, the dilution of precision.
 #[derive(Clone, Copy)]
 pub struct RatedDelta {
@@ -54,69 +49,23 @@ pub struct RatedDelta {
     pub pdop: f64,
 }
 
-#[derive(Clone, Copy)]
-pub enum Rated {
-    Refused(Refusal),
-    Moved(RatedDelta),
-}
-
-// Returns the displacement of an answer without its figures.
-pub fn plain(answer: Rated) -> Displacement
-    ensures { result ≡ rated.plain_of answer }
-{
-    match answer {
-        Rated::Refused(r) => Displacement::Refused(r),
-        Rated::Moved(d) => {
-            let moved = d.moved;
-            Displacement::Moved(moved)
-        }
-    }
-}
-
 // Returns the receiver's position change between two epochs of signals, states and floats, with the figures of its fit on request. Every displacement ends here.
 // The receiver's position sets the geometry only.
 pub fn displaced(
-    previous_signals: &[u64],
-    previous_states: &[i32],
-    previous_floats: &[f64],
-    current_signals: &[u64],
-    current_states: &[i32],
-    current_floats: &[f64],
+    previous: Carriers,
+    current: Carriers,
     since: Interval,
     receiver: Vec3,
     settings: Settings,
     profile: Profile,
     wanted: bool,
-) -> Rated
-    requires signals_lent { SignalsLent previous_signals previous_states previous_floats }
-    requires signals_lent_2 { SignalsLent current_signals current_states current_floats }
-    ensures { rated.Answered wanted (spec.input
-        (lent_signals previous_signals previous_states previous_floats)
-        (lent_signals current_signals current_states current_floats)
-        since receiver settings profile) result }
+) -> Result<RatedDelta, Refusal>
+    ensures { rated.Answered wanted (spec.input (lent_signals previous.entry) (lent_signals current.entry) since receiver settings profile) result }
 {
-    let sound = sound_in(previous_signals, previous_states, previous_floats)
-        & sound_in(current_signals, current_states, current_floats)
-        & is_placeable(receiver);
-    let seconds = seconds_of(settings, sound, since);
-    match seconds {
-        Seconds::Refused(r) => Rated::Refused(r),
-        Seconds::Since(dt) => {
-            let all = pairs_in(
-                previous_signals,
-                previous_states,
-                previous_floats,
-                current_signals,
-                current_states,
-                current_floats,
-                receiver,
-                settings.mask,
-                dt,
-                profile,
-            );
-            moved_by(settings, all, profile, wanted)
-        }
-    }
+    let sound = previous.is_sound() & current.is_sound() & receiver.is_in_range();
+    let dt = seconds_of(settings, sound, since)?;
+    let all = pairs_in(previous, current, receiver, settings.mask, dt, profile);
+    moved_by(settings, all, profile, wanted)
 }
 
 // Returns the receiver's position change between two epochs by value, with the figures of its fit on request: each is written as signals, states and floats once.
@@ -128,42 +77,24 @@ pub fn displaced_by(
     settings: Settings,
     profile: Profile,
     wanted: bool,
-) -> Rated
+) -> Result<RatedDelta, Refusal>
     ensures { rated.Answered wanted (spec.input previous current since receiver settings profile) result }
 {
     let m = previous.count;
     let n = current.count;
     if 64 < m {
-        return Rated::Refused(Refusal::TooMany);
+        return Err(Refusal::TooMany);
     }
     if 64 < n {
-        return Rated::Refused(Refusal::TooMany);
+        return Err(Refusal::TooMany);
     }
-    let mut previous_signals = [0u64; 64];
-    let mut previous_states = [0i32; 64];
-    let mut previous_floats = [0.0; 384];
-    epoch_into(
-        previous,
-        &mut previous_signals,
-        &mut previous_states,
-        &mut previous_floats,
-    );
-    let mut current_signals = [0u64; 64];
-    let mut current_states = [0i32; 64];
-    let mut current_floats = [0.0; 384];
-    epoch_into(
-        current,
-        &mut current_signals,
-        &mut current_states,
-        &mut current_floats,
-    );
+    let mut then = CarrierArrays::new();
+    then.put_epoch(previous);
+    let mut now = CarrierArrays::new();
+    now.put_epoch(current);
     displaced(
-        &previous_signals[..m],
-        &previous_states,
-        &previous_floats,
-        &current_signals[..n],
-        &current_states,
-        &current_floats,
+        then.first(m),
+        now.first(n),
         since,
         receiver,
         settings,
@@ -179,10 +110,10 @@ pub fn delta_position(
     dt: f64,
     receiver: Vec3,
     settings: Settings,
-) -> Displacement
+) -> Result<Delta, Refusal>
     ensures { spec.Promised (spec.general previous current dt receiver settings) result }
 {
-    let answer = displaced_by(
+    displaced_by(
         previous,
         current,
         Interval::Seconds(dt),
@@ -190,8 +121,8 @@ pub fn delta_position(
         settings,
         Profile::General,
         false,
-    );
-    plain(answer)
+    )
+    .map(|d| d.moved)
 }
 
 // Returns the receiver's position change between two epochs by their times.
@@ -202,10 +133,10 @@ pub fn delta_between(
     current_time: GpsTime,
     receiver: Vec3,
     settings: Settings,
-) -> Displacement
+) -> Result<Delta, Refusal>
     ensures { spec.Promised (spec.input previous current (Interval.Between previous_time current_time) receiver settings Profile.General) result }
 {
-    let answer = displaced_by(
+    displaced_by(
         previous,
         current,
         Interval::Between(previous_time, current_time),
@@ -213,8 +144,8 @@ pub fn delta_between(
         settings,
         Profile::General,
         false,
-    );
-    plain(answer)
+    )
+    .map(|d| d.moved)
 }
 
 // Returns the receiver's position change between two epochs, dt seconds apart, by the carriers that the city profile certifies: GPS (1) and Galileo (6) on one band.
@@ -225,10 +156,10 @@ pub fn city_displacement(
     band: u32,
     receiver: Vec3,
     settings: Settings,
-) -> Displacement
+) -> Result<Delta, Refusal>
     ensures { spec.Promised (spec.input previous current (Interval.Seconds dt) receiver settings (Profile.City band)) result }
 {
-    let answer = displaced_by(
+    displaced_by(
         previous,
         current,
         Interval::Seconds(dt),
@@ -236,8 +167,8 @@ pub fn city_displacement(
         settings,
         Profile::City(band),
         false,
-    );
-    plain(answer)
+    )
+    .map(|d| d.moved)
 }
 
 // Returns the receiver's position change between two epochs, dt seconds apart, with the quality of its fit.
@@ -247,7 +178,7 @@ pub fn rated_displacement(
     dt: f64,
     receiver: Vec3,
     settings: Settings,
-) -> Rated
+) -> Result<RatedDelta, Refusal>
     ensures { rated.RatedPromised (spec.general previous current dt receiver settings) result }
 {
     displaced_by(
@@ -269,7 +200,7 @@ pub fn rated_city_displacement(
     band: u32,
     receiver: Vec3,
     settings: Settings,
-) -> Rated
+) -> Result<RatedDelta, Refusal>
     ensures { rated.RatedPromised (spec.input previous current (Interval.Seconds dt) receiver settings (Profile.City band)) result }
 {
     displaced_by(

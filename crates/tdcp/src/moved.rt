@@ -8,20 +8,18 @@ ghost use Rattle.tdcp.specs.Displacement as spec;
 ghost use Rattle.tdcp.specs.Rated as rated;
 ghost use Rattle.tdcp.specs.Steps as code;
 
-use crate::displacement::{Delta, Displacement, Rated, RatedDelta, Settings};
-use crate::rating::{quality_at, rate};
+use crate::displacement::{Delta, RatedDelta, Settings};
+use crate::rating::quality_at;
 use crate::rounds::{clocks_into, fit_pairs, sigmas_into};
 use crate::valid::{check_pairs, is_uncertified};
 use clocks::clocks::Clocks;
-use estimate_rounds::rules::Check;
-use numeric::real::is_finite;
 use numeric::refusal::Refusal;
 use numeric::vec3::Vec3;
 use records::pair::{Pairs, Profile};
 use records::screen::{clocks_of, keep_into};
 
 // Returns the displacement at the state x, or 10 where it is not finite.
-fn moved_to(x: [f64; 9], used: usize, screened: usize) -> Displacement
+fn moved_to(x: [f64; 9], used: usize, screened: usize) -> Result<Delta, Refusal>
     ensures { result ≡ code.concluded_at used screened x }
 {
     let delta = Vec3 {
@@ -29,14 +27,14 @@ fn moved_to(x: [f64; 9], used: usize, screened: usize) -> Displacement
         y: x[1],
         z: x[2],
     };
-    if is_finite(delta.x) & is_finite(delta.y) & is_finite(delta.z) {
-        return Displacement::Moved(Delta {
+    if delta.is_finite() {
+        return Ok(Delta {
             delta: delta,
             used: used,
             screened: screened,
         });
     }
-    Displacement::Refused(Refusal::FitFailed)
+    Err(Refusal::FitFailed)
 }
 
 // Runs the rounds over the pairs of the columns. Returns the displacement at the state that they reach, with its figures on request, or the refusal.
@@ -51,7 +49,7 @@ fn moved_over(
     observed: &[f64],
     screened: usize,
     wanted: bool,
-) -> Rated
+) -> Result<RatedDelta, Refusal>
     requires { (length observed.now ≤ 64) × (k.count ≤ 6) }
     ensures { let pairs = lent_pairs x y z constellation elevation observed in
         result ≡ rated.answered_by wanted (code.quality_over settings k pairs) (code.moved_over settings k pairs screened) }
@@ -62,32 +60,31 @@ fn moved_over(
     let mut sigma = [0.0; 64];
     sigmas_into(settings, elevation, used, &mut sigma);
     let mut state = [0.0; 9];
-    if let Check::Refused(r) = fit_pairs(
-        settings, k, x, y, z, &clock, &sigma, observed, &mut state,
-    ) {
-        return Rated::Refused(r);
+    fit_pairs(settings, k, x, y, z, &clock, &sigma, observed, &mut state)?;
+    let d = moved_to(state, used, screened)?;
+    if !wanted {
+        return Ok(RatedDelta {
+            moved: d,
+            chi: 0.0,
+            pdop: 0.0,
+        });
     }
-    let moved = moved_to(state, used, screened);
-    match moved {
-        Displacement::Refused(r) => Rated::Refused(r),
-        Displacement::Moved(d) => {
-            if wanted {
-                let n = 3 + k.count;
-                let quality = quality_at(n, x, y, z, &clock, &sigma, observed, state);
-                return rate(d, quality);
-            }
-            Rated::Moved(RatedDelta {
-                moved: d,
-                chi: 0.0,
-                pdop: 0.0,
-            })
-        }
-    }
+    let f = quality_at(3 + k.count, x, y, z, &clock, &sigma, observed, state)?;
+    Ok(RatedDelta {
+        moved: d,
+        chi: f.chi,
+        pdop: f.pdop,
+    })
 }
 
 // Finishes a displacement from its carrier pairs: screens them, checks rules 15, 7 to 9 (and 20 in the city profile), runs the rounds, checks 10. Rule 15 is checked
 // after screening: returning earlier makes the compiler copy the pairs.
-pub(crate) fn moved_by(settings: Settings, all: Pairs, profile: Profile, wanted: bool) -> Rated
+pub(crate) fn moved_by(
+    settings: Settings,
+    all: Pairs,
+    profile: Profile,
+    wanted: bool,
+) -> Result<RatedDelta, Refusal>
     requires { (all.count ≤ 64) × (all.seen ≡ every seen (counted_pairs all)) }
     ensures { result ≡ rated.answered_by wanted (code.quality_by settings (counted_pairs all))
         (spec.moved_by (is_city profile) settings (counted_pairs all)) }
@@ -111,13 +108,11 @@ pub(crate) fn moved_by(settings: Settings, all: Pairs, profile: Profile, wanted:
         &mut observed,
     );
     if !seen {
-        return Rated::Refused(Refusal::OnReceiver);
+        return Err(Refusal::OnReceiver);
     }
     let clocks = clocks_of(&constellation[..used]);
     let uncertified = is_uncertified(profile, &constellation[..used]);
-    if let Check::Refused(r) = check_pairs(pairs, used, clocks.count, uncertified) {
-        return Rated::Refused(r);
-    }
+    check_pairs(pairs, used, clocks.count, uncertified)?;
     moved_over(
         settings,
         clocks,

@@ -5,9 +5,10 @@ ghost use Rattle.tdcp.specs.Steps as code;
 use crate::displacement::Settings;
 use clocks::clocks::Clocks;
 use estimate_rounds::rounds::{is_short, move_by, state_at};
-use estimate_rounds::rules::Check;
+use normal_equations::columns::Columns;
 use numeric::order::pattern;
-use robust::round::{Stepping, round_step};
+use numeric::refusal::Refusal;
+use robust::round::round_step;
 use robust::sigma::elevation_sigma;
 
 // Returns the residual of an observed value at the state x, with the line of sight u, v, w and the clock s, as a pattern.
@@ -88,7 +89,7 @@ pub(crate) fn fit_pairs(
     sigma: &[f64; 64],
     observed: &[f64],
     state: &mut [f64; 9],
-) -> Check
+) -> Result<(), Refusal>
     requires { (length observed.now ≤ 64) × (k.count ≤ 6) }
     ensures { code.FitEnds settings k x.now y.now z.now clock.now sigma.now
         observed.now result state.old state.new }
@@ -96,32 +97,25 @@ pub(crate) fn fit_pairs(
     let count = observed.len();
     let mut residual = [0u64; 64];
     let mut at = [0.0; 9];
-    let mut i: u32 = 0;
-    while i < settings.rounds {
+    for i in 0..settings.rounds {
         residuals_at(x, y, z, clock, observed, at, &mut residual);
         let n = 3 + k.count;
-        let mut dx = [0.0; 9];
-        if let Stepping::Refused(r) = round_step(
+        let rows = Columns {
             x,
             y,
             z,
             clock,
             sigma,
-            &residual[..count],
-            n,
-            settings.huber,
-            &mut dx,
-        ) {
-            return Check::Refused(r);
-        }
+            residual: &residual[..count],
+        };
+        let dx = round_step(rows, n, settings.huber)?;
         let next = move_by(n, dx, at);
         at = next;
         if is_short(1e-5, dx) {
             *state = at;
-            return Check::Passed;
+            return Ok(());
         }
-        i += 1;
     }
     *state = at;
-    Check::Passed
+    Ok(())
 }

@@ -8,11 +8,10 @@ ghost use Rattle.tdcp.specs.Steps as code;
 ghost use Rattle.tdcp.specs.Valid as spec;
 
 use crate::displacement::{Interval, Settings};
-use estimate_rounds::rules::{Check, check_rows};
+use estimate_rounds::rules::check_rows;
 use numeric::real::{in_range, is_finite};
 use numeric::refusal::Refusal;
 use records::pair::Profile;
-use time::time::Seconds;
 
 // Checks rule 3 of a displacement.
 pub fn settings_pass(s: Settings) -> bool
@@ -34,69 +33,57 @@ pub(crate) fn is_bad_interval(dt: f64) -> bool
 }
 
 // Returns the seconds of an interval, or 13.
-fn apart(since: Interval) -> Seconds
-    ensures { result ≡ ruled Seconds.Refused (rule BadTime (not (spec.is_timed since)) ∷ []) (Seconds.Since (spec.dt_of since)) }
+fn apart(since: Interval) -> Result<f64, Refusal>
+    ensures { result ≡ ruled Err (rule BadTime (not (spec.is_timed since)) ∷ []) (Ok (spec.dt_of since)) }
 {
     match since {
-        Interval::Seconds(dt) => Seconds::Since(dt),
+        Interval::Seconds(dt) => Ok(dt),
         Interval::Between(previous, current) => current.seconds_since(previous),
     }
 }
 
 // Checks rules 3, 4, 13 and 5 of a displacement and returns the seconds of its interval. `sound` says whether every record and the receiver pass rule 4.
-pub(crate) fn seconds_of(settings: Settings, sound: bool, since: Interval) -> Seconds
-    ensures { result ≡ ruled Seconds.Refused (code.given_rules settings sound since) (Seconds.Since (spec.dt_of since)) }
+pub(crate) fn seconds_of(settings: Settings, sound: bool, since: Interval) -> Result<f64, Refusal>
+    ensures { result ≡ ruled Err (code.given_rules settings sound since) (Ok (spec.dt_of since)) }
 {
     if !settings_pass(settings) {
-        return Seconds::Refused(Refusal::SettingOutOfRange);
+        return Err(Refusal::SettingOutOfRange);
     }
     if !sound {
-        return Seconds::Refused(Refusal::RecordOutOfRange);
+        return Err(Refusal::RecordOutOfRange);
     }
-    let seconds = apart(since);
-    match seconds {
-        Seconds::Refused(r) => Seconds::Refused(r),
-        Seconds::Since(dt) => {
-            if is_bad_interval(dt) {
-                return Seconds::Refused(Refusal::BadInterval);
-            }
-            Seconds::Since(dt)
-        }
+    let dt = apart(since)?;
+    if is_bad_interval(dt) {
+        return Err(Refusal::BadInterval);
     }
+    Ok(dt)
 }
 
 // Checks whether, in the city profile, GPS (1) or Galileo (6) is absent among these constellations.
 pub(crate) fn is_uncertified(profile: Profile, constellation: &[u8]) -> bool
     ensures { result ≡ (is_city profile && not (has constellation.now 1 && has constellation.now 6)) }
 {
-    if let Profile::General = profile {
-        return false;
+    match profile {
+        Profile::General => false,
+        Profile::City(_) => !(constellation.contains(&1) & constellation.contains(&6)),
     }
-    let n = constellation.len();
-    let mut gps = false;
-    let mut galileo = false;
-    let mut i: usize = 0;
-    while i < n {
-        let c = constellation[i];
-        gps = gps | (c == 1);
-        galileo = galileo | (c == 6);
-        i += 1;
-    }
-    !(gps & galileo)
 }
 
 // Checks rules 7 to 9 of a displacement, then 20.
-pub(crate) fn check_pairs(pairs: usize, kept: usize, slots: usize, uncertified: bool) -> Check
-    ensures { result ≡ ruled Check.Refused (spec.few_rules pairs kept slots ++ (rule NotCertified uncertified ∷ [])) Check.Passed }
+pub(crate) fn check_pairs(
+    pairs: usize,
+    kept: usize,
+    slots: usize,
+    uncertified: bool,
+) -> Result<(), Refusal>
+    ensures { result ≡ ruled Err (spec.few_rules pairs kept slots ++ (rule NotCertified uncertified ∷ [])) (Ok tt) }
 {
     if pairs < 6 {
-        return Check::Refused(Refusal::TooFewPairs);
+        return Err(Refusal::TooFewPairs);
     }
-    if let Check::Refused(r) = check_rows(kept, slots) {
-        return Check::Refused(r);
-    }
+    check_rows(kept, slots)?;
     if uncertified {
-        return Check::Refused(Refusal::NotCertified);
+        return Err(Refusal::NotCertified);
     }
-    Check::Passed
+    Ok(())
 }

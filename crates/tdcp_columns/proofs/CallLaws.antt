@@ -1,4 +1,6 @@
 -- The calls on columns beside one another: the displacement between two times beside the one with their seconds. Assumes nothing.
+use Rattle.numeric.specs.Refusal.{answer_number}
+use Rattle.std.specs.Prelude.{Err}
 use mathlib.Core.Path.{◌≡◌, sym, ap, ap₂, ◌∙◌}
 use mathlib.Core.Bool.{true, false, cond, ◌&&◌}
 use mathlib.Core.List.{List}
@@ -13,10 +15,9 @@ use Rattle.records.specs.declared.pair.Profile.{Profile}
 use Rattle.numeric.specs.Rules.{Rule, ruled}
 use Rattle.numeric.proofs.RulesLaws.{ruled-append}
 use Rattle.tdcp.specs.Valid.{epoch_rules, interval_rules}
-use Rattle.tdcp.specs.Displacement.{displacement_of, displacement_number}
+use Rattle.tdcp.specs.Displacement.{displacement_of}
 use Rattle.tdcp.specs.declared.displacement.Settings.{Settings}
 use Rattle.tdcp.specs.declared.displacement.Interval.{Interval}
-use Rattle.tdcp.specs.declared.displacement.Displacement.TheVariants.{Refused}
 use Rattle.tdcp.proofs.IntervalLaws.{at-dt}
 use Rattle.tdcp_columns.specs.Displacement.{Lent, lent, lent_input, is_fit, columns_displaced, delta_after, counts_after, DisplacementAnswers, Alike}
 
@@ -25,7 +26,7 @@ pub alike : (l m : Lent) {number number' : ℕ} {delta delta' counts counts' : L
     → DisplacementAnswers l number delta counts → DisplacementAnswers m number' delta' counts' → Alike number number' delta delta' counts counts'
 alike l m {delta = delta} {counts = counts} e a b =
     record {
-      numbers = a.leaves.number_is ∙ ap displacement_number e ∙ sym b.leaves.number_is;
+      numbers = a.leaves.number_is ∙ ap answer_number e ∙ sym b.leaves.number_is;
       deltas = λ same. a.leaves.delta-is ∙ ap₂ delta_after e same ∙ sym b.leaves.delta-is;
       counted = λ same. a.leaves.counts-are ∙ ap₂ counts_after e same ∙ sym b.leaves.counts-are;
     }
@@ -49,11 +50,11 @@ module _ (previous : CarrierColumns) (m : ℕ) (current : CarrierColumns) (n : �
   abbrev rules : List Rule
   rules = epoch_rules (epoch_of previous m) (epoch_of current n) receiver settings
 
-  thirteen : (is_dated t && is_dated s) ≡ false → displacement_of (lent_input between) ≡ ruled Refused rules (Refused BadTime)
+  thirteen : (is_dated t && is_dated s) ≡ false → displacement_of (lent_input between) ≡ ruled Err rules (Err BadTime)
   unfolding displacement_of interval_rules ruled
-  thirteen e = ruled-append Refused _ rules _ ∙ rw e
+  thirteen e = ruled-append Err _ rules _ ∙ rw e
 
   -- otherwise the number of 2 to 4 where one of them applies, and 13 where none does
-  pub between-refused : (is_dated t && is_dated s) ≡ false → columns_displaced between ≡ cond (is_fit between) (ruled Refused rules (Refused BadTime)) (Refused TooMany)
+  pub between-refused : (is_dated t && is_dated s) ≡ false → columns_displaced between ≡ cond (is_fit between) (ruled Err rules (Err BadTime)) (Err TooMany)
   unfolding columns_displaced
   between-refused e = rw (thirteen e)

@@ -1,4 +1,7 @@
 -- Columns that fit, and columns that do not. Assumes nothing.
+use Rattle.std.specs.Prelude.{Result, Err}
+use Rattle.numeric.specs.declared.refusal.Refusal.{Refusal}
+use Rattle.tdcp.specs.declared.displacement.RatedDelta.{RatedDelta}
 use mathlib.Core.Path.{◌≡◌, sym, ◌∙◌}
 use mathlib.Core.Bool.{Bool, true, false}
 use mathlib.Core.List.{List}
@@ -15,8 +18,6 @@ use Rattle.records.specs.Carriers.{CarrierColumns, carrier_columns, epoch_of, ep
 use Rattle.records.specs.Signals.{epoch_in, SignalsFit}
 use Rattle.records.proofs.EpochLaws.{signalled-fits, signalled-is}
 use Rattle.tdcp.specs.Rated.{answered_of}
-use Rattle.tdcp.specs.declared.displacement.Rated.{Rated}
-use Rattle.tdcp.specs.declared.displacement.Rated.TheVariants.{Refused}
 use Rattle.tdcp_columns.specs.Displacement.{Lent, lent_input}
 use Rattle.tdcp_columns.specs.Steps.{FitInto, columns_answered}
 
@@ -57,23 +58,22 @@ module _ (cs vs bs : List ℕ) (ts : List ℤ) (fs : List Float) (n : ℕ) {r : 
   pub into-count : length (take n ss) ≡ n
   into-count = length-take-le n ss into-long
 
-  module _ (vl : (i : ℕ) → get_or vs i 0 < 2 ^ 16) (bl : (i : ℕ) → get_or bs i 0 < 2 ^ 32) where
-    pub into-fits : ((i : ℕ) → get_or cs i 0 < 2 ^ 8) → SignalsFit (take n ss) ts fs
-    into-fits cl = signalled-fits cs vs bs ts fs n ss (h.signalled t) room.few vl bl room.state room.floats cl
+  pub into-fits : SignalsFit (take n ss) ts fs
+  into-fits = signalled-fits cs vs bs ts fs n ss (h.signalled t) room.few room.state room.floats
 
-    pub into-is : epoch_in (take n ss) ts fs ≡ epoch_of (carrier_columns cs vs bs ts fs) n
-    into-is = signalled-is cs vs bs ts fs n ss (h.signalled t) room.few vl bl
+  pub into-is : epoch_in (take n ss) ts fs ≡ epoch_of (carrier_columns cs vs bs ts fs) n
+  into-is = signalled-is cs vs bs ts fs n ss (h.signalled t) room.few
 
 module _ (wanted : Bool) (l : Lent) {a : Bool} (is : a ≡ epoch_fits l.previous l.previous-count) where
-  pub not_first : a ≡ false → Refused TooMany ≡ columns_answered wanted l
+  pub not_first : a ≡ false → Err TooMany ≡ columns_answered wanted l
   unfolding columns_answered
   not_first e = rw (← is, e)
 
   module _ {b : Bool} (is' : b ≡ epoch_fits l.current l.current-count) (t : a ≡ true) where
-    pub not-second : b ≡ false → Refused TooMany ≡ columns_answered wanted l
+    pub not-second : b ≡ false → Err TooMany ≡ columns_answered wanted l
     unfolding columns_answered
     not-second e = rw (← is, ← is', t, e)
 
-    pub both-fit : {d : Rated} → b ≡ true → d ≡ answered_of wanted (lent_input l) → d ≡ columns_answered wanted l
+    pub both-fit : {d : Result RatedDelta Refusal} → b ≡ true → d ≡ answered_of wanted (lent_input l) → d ≡ columns_answered wanted l
     unfolding columns_answered
     both-fit u q = q ∙ rw (← is, ← is', t, u)

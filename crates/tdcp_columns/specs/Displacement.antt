@@ -1,4 +1,7 @@
 -- Displacements of a caller's columns: the answer, its number, and what the lent results hold afterwards. Definitions only.
+use Rattle.numeric.specs.Refusal.{answer_number}
+use Rattle.std.specs.Prelude.{Result, Ok, Err}
+use Rattle.numeric.specs.declared.refusal.Refusal.{Refusal}
 use Rattle.std.specs.Prelude.{ℕ, ◌≡◌, Bool, cond, ◌&&◌, List, map, get_or, Float}
 use Rattle.std.specs.Float.{nan}
 use Rattle.exact.specs.Float.{+0}
@@ -8,12 +11,10 @@ use Rattle.numeric.specs.declared.vec3.Vec3.{Vec3}
 use Rattle.lists.specs.Memory.{before, after, LentNumbers, LentFloats}
 use Rattle.records.specs.Carriers.{CarrierColumns, epoch_of, epoch_fits}
 use Rattle.records.specs.declared.pair.Profile.{Profile}
-use Rattle.tdcp.specs.Displacement.{Input, input, displacement_of, displacement_number, displacement_floats, displacement_counts, Accepted}
+use Rattle.tdcp.specs.Displacement.{Input, input, displacement_of, displacement_floats, displacement_counts, Accepted}
 use Rattle.tdcp.specs.declared.displacement.Settings.{Settings}
 use Rattle.tdcp.specs.declared.displacement.Interval.{Interval}
 use Rattle.tdcp.specs.declared.displacement.Delta.{Delta}
-use Rattle.tdcp.specs.declared.displacement.Displacement.{Displacement}
-use Rattle.tdcp.specs.declared.displacement.Displacement.TheVariants.{Refused, Moved}
 
 -- five floats (screen, sigma_a, sigma_b, huber, mask) and the rounds; `agreement` is neither read nor checked
 abbrev pub displacement_settings : List Float → ℕ → Settings
@@ -55,23 +56,23 @@ abbrev pub is_fit : Lent → Bool
 is_fit l = epoch_fits l.previous l.previous-count && epoch_fits l.current l.current-count
 
 -- their displacement. 2: one epoch has more than 64 carriers, or one of its columns is too short.
-unfoldable pub columns_displaced : Lent → Displacement
-columns_displaced l = cond (is_fit l) (displacement_of (lent_input l)) (Refused TooMany)
+unfoldable pub columns_displaced : Lent → Result Delta Refusal
+columns_displaced l = cond (is_fit l) (displacement_of (lent_input l)) (Err TooMany)
 
 -- ---- the answer in lent memory
 
 -- the patterns of the displacement in metres, and how many pairs were used and screened out; a refusal changes no bit of either
-abbrev pub delta_after : Displacement → List ℕ → List ℕ
-delta_after (Refused r) old = old
-delta_after (Moved d) old = map pattern_of (displacement_floats (Moved d))
+abbrev pub delta_after : Result Delta Refusal → List ℕ → List ℕ
+delta_after (Err r) old = old
+delta_after (Ok d) old = map pattern_of (displacement_floats (Ok d))
 
-abbrev pub counts_after : Displacement → List ℕ → List ℕ
-counts_after (Refused r) old = old
-counts_after (Moved d) old = displacement_counts (Moved d)
+abbrev pub counts_after : Result Delta Refusal → List ℕ → List ℕ
+counts_after (Err r) old = old
+counts_after (Ok d) old = displacement_counts (Ok d)
 
 -- the number and the lent results afterwards are those of the displacement d
-pub record Leaves (d : Displacement) (number : ℕ) (delta counts : LentNumbers) : Type 0 where
-  pub number_is : number ≡ displacement_number d
+pub record Leaves (d : Result Delta Refusal) (number : ℕ) (delta counts : LentNumbers) : Type 0 where
+  pub number_is : number ≡ answer_number d
   pub delta-is : after delta ≡ delta_after d (before delta)
   pub counts-are : after counts ≡ counts_after d (before counts)
 
@@ -79,7 +80,7 @@ pub record Leaves (d : Displacement) (number : ℕ) (delta counts : LentNumbers)
 -- round included.
 pub record DisplacementAnswers (l : Lent) (number : ℕ) (delta counts : LentNumbers) : Type 0 where
   pub leaves : Leaves (columns_displaced l) number delta counts
-  pub accepted : (d : Delta) → columns_displaced l ≡ Moved d → Accepted (lent_input l) d
+  pub accepted : (d : Delta) → columns_displaced l ≡ Ok d → Accepted (lent_input l) d
 
 -- two calls are alike: the same number, and from the same memory the same bits in the lent results
 pub record Alike (number number' : ℕ) (delta delta' counts counts' : LentNumbers) : Type 0 where

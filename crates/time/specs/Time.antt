@@ -1,4 +1,6 @@
 -- Times in whole nanoseconds (docs/SCOPE.md, "Times"; `GpsTime` of time.rs). Definitions only.
+use Rattle.std.specs.Prelude.{Result, Ok, Err}
+use Rattle.numeric.specs.declared.refusal.Refusal.{Refusal}
 use Rattle.std.specs.Prelude.{ℕ, ◌+◌, ◌*◌, Bool, cond, ◌&&◌, ℤ, pos, ◌-ℤ◌, nat_le, Float}
 use Rattle.std.specs.Float.{binary64}
 use Rattle.std.specs.Float.Ieee.{lt, le, of_int}
@@ -7,12 +9,6 @@ use Rattle.numeric.specs.Refusal.{number_of}
 use Rattle.numeric.specs.Whole.{whole_part}
 use Rattle.numeric.specs.declared.refusal.Refusal.TheVariants.{BadTime}
 use Rattle.time.specs.declared.time.GpsTime.{GpsTime}
-use Rattle.time.specs.declared.time.Time.{Time}
-use Rattle.time.specs.declared.time.Time.TheVariants.{Refused, At}
-use Rattle.time.specs.declared.time.Nanos.{Nanos}
-use Rattle.time.specs.declared.time.Nanos.TheVariants.{Refused as NoNanos, Since as NanosSince}
-use Rattle.time.specs.declared.time.Seconds.{Seconds}
-use Rattle.time.specs.declared.time.Seconds.TheVariants.{Refused as NoSeconds, Since as SecondsSince}
 
 -- the nanoseconds of a week, and of a second
 abbrev pub nanos_per_week : ℕ
@@ -40,8 +36,8 @@ unfoldable pub nanos_of : Float → ℕ
 nanos_of tow = rounded (tow ⊗ nanos_per_second)
 
 -- the time of a week and a time of week
-unfoldable pub time_of : ℕ → Float → Time
-time_of week tow = cond (is_time week tow) (At (record { nanos = week * nanos_per_week + nanos_of tow })) (Refused BadTime)
+unfoldable pub time_of : ℕ → Float → Result GpsTime Refusal
+time_of week tow = cond (is_time week tow) (Ok (record { nanos = week * nanos_per_week + nanos_of tow })) (Err BadTime)
 
 -- ---- differences
 
@@ -57,22 +53,10 @@ unfoldable pub seconds_between : GpsTime → GpsTime → Float
 seconds_between later earlier = of_int binary64 (nanos_between later earlier) ⊘ nanos_per_second
 
 -- the answers of the two calls
-unfoldable pub nanos_since : GpsTime → GpsTime → Nanos
-nanos_since later earlier = cond (is_dated later && is_dated earlier) (NanosSince (nanos_between later earlier)) (NoNanos BadTime)
+unfoldable pub nanos_since : GpsTime → GpsTime → Result ℤ Refusal
+nanos_since later earlier = cond (is_dated later && is_dated earlier) (Ok (nanos_between later earlier)) (Err BadTime)
 
-unfoldable pub seconds_since : GpsTime → GpsTime → Seconds
-seconds_since later earlier = cond (is_dated later && is_dated earlier) (SecondsSince (seconds_between later earlier)) (NoSeconds BadTime)
+unfoldable pub seconds_since : GpsTime → GpsTime → Result Float Refusal
+seconds_since later earlier = cond (is_dated later && is_dated earlier) (Ok (seconds_between later earlier)) (Err BadTime)
 
 -- ---- the answers in numbers: 0, or the number of the refusal
-
-abbrev pub time_number : Time → ℕ
-time_number (Refused r) = number_of r
-time_number (At t) = 0
-
-abbrev pub nanos_number : Nanos → ℕ
-nanos_number (NoNanos r) = number_of r
-nanos_number (NanosSince z) = 0
-
-abbrev pub seconds_number : Seconds → ℕ
-seconds_number (NoSeconds r) = number_of r
-seconds_number (SecondsSince x) = 0

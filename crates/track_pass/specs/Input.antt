@@ -2,6 +2,8 @@
 use Rattle.std.specs.Prelude.{List, ℕ, ◌+◌, ◌*◌, get_or, Float}
 use Rattle.std.specs.Float.{nan}
 use Rattle.lists.specs.Memory.{before, LentNumbers, LentFloats}
+use Rattle.track_pass.specs.declared.measured.Measured.{Measured as LentMeasured}
+use Rattle.track_pass.specs.declared.measured.Track.{Track as LentTrack}
 
 -- Anchors, or links: how many there are, and of each the epoch index, three floats of position (a link's change in position), and three sigmas.
 pub record Measured : Type 0 where
@@ -32,6 +34,13 @@ lent_measured count index value sigma = measured count (before index) (before va
 abbrev pub lent_track : ℕ → ℕ → LentNumbers → LentFloats → LentFloats → ℕ → LentNumbers → LentFloats → LentFloats → Trajectory
 lent_track n anchors epoch position sigma links from change spread =
     trajectory n (lent_measured anchors epoch position sigma) (lent_measured links from change spread)
+
+-- the same of the columns and the track that a call is handed
+abbrev pub measured_in : LentMeasured → Measured
+measured_in m = measured m.count m.epoch.now m.value.now m.sigma.now
+
+abbrev pub track_in : LentTrack → Trajectory
+track_in t = trajectory t.epochs (measured_in t.anchors) (measured_in t.links)
 
 -- ---- its measurements
 

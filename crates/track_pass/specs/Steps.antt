@@ -3,7 +3,6 @@
 use Rattle.std.specs.Prelude.{◌≡◌, Bool, true, false, not, ◌&&◌, cond, ◌⊎◌, List, ℕ, ◌+◌, ◌-◌, ◌*◌, ◌≤◌, ◌<◌, length, get_or, set, Float}
 use Rattle.std.specs.Float.Ieee.{is_nan}
 use Rattle.std.specs.Float.Ieee.Scale.{finite}
-use Rattle.std.specs.Borrow.{Bor}
 use Rattle.lists.specs.Memory.{before, after, LentNumbers}
 use Rattle.exact.specs.Float.{◌⊕◌, ◌⊖◌}
 use Rattle.numeric.specs.Order.{pattern_of}
@@ -11,17 +10,9 @@ use Rattle.numeric.specs.Real.{in_range}
 use Rattle.track_tridiagonal.specs.Rows.{float_at, row_cell, axis_in, Axes, SameOutside}
 use Rattle.track_tridiagonal.specs.Tridiagonal.{Equations, NoNan, Spoilt}
 use Rattle.track_tridiagonal.specs.Steps.{Alike}
-use Rattle.track_pass.specs.Input.{Measured, Trajectory, measured, trajectory, index_at, track_origin, work_need}
+use Rattle.track_pass.specs.Input.{Measured, Trajectory, index_at, track_origin, work_need}
 use Rattle.track_pass.specs.Equations.{changed, raised_at, lower, Scales, track_weight, anchor_pull, link_diagonal, link_right}
 use Rattle.track_pass.specs.Pass.{pass_succeeds, fitted_at}
-
--- what a call is lent, in a condition on the caller
-abbrev pub measured_now : ℕ → Bor (List ℕ) → Bor (List Float) → Bor (List Float) → Measured
-measured_now count index value sigma = measured count index.now value.now sigma.now
-
-abbrev pub track_now : ℕ → ℕ → Bor (List ℕ) → Bor (List Float) → Bor (List Float) → ℕ → Bor (List ℕ) → Bor (List Float) → Bor (List Float) → Trajectory
-track_now n anchors epoch position sigma links from change spread =
-    trajectory n (measured_now anchors epoch position sigma) (measured_now links from change spread)
 
 -- how each measurement in turn changes the rows of axis t
 pub record Change : Type 0 where

@@ -3,6 +3,7 @@
 // where one would be, since it fails in any case.
 #![tactic(auto)]
 
+pub mod measured;
 pub mod pass;
 mod publish;
 mod system;

@@ -6,6 +6,8 @@ ghost use Rattle.numeric.specs.Order.{pattern_of};
 ghost use Rattle.numeric.specs.Real.{in_range};
 ghost use Rattle.track_pass.specs.Steps.{Publishable, Published};
 
+use numeric::vec3::Vec3;
+
 // Adds the origin o to an unknown.
 fn place(b: u64, o: f64) -> u64
     requires { (finite (bits b) ≡ true) × (in_range o ≡ true) }
@@ -14,19 +16,17 @@ fn place(b: u64, o: f64) -> u64
     f64::to_bits(f64::from_bits(b) + o)
 }
 
-// Puts the unknowns of n rows, with the origin (x, y, z) added, into the result.
-pub(crate) fn publish(w: &[u64], n: usize, x: f64, y: f64, z: f64, r: &mut [u64])
-    requires { Publishable w.now n x y z r.old }
-    ensures { Published w.now n x y z r.old r.new }
+// Puts the unknowns of n rows, with the origin added, into the result.
+pub(crate) fn publish(w: &[u64], n: usize, origin: Vec3, r: &mut [u64])
+    requires { Publishable w.now n origin.x origin.y origin.z r.old }
+    ensures { Published w.now n origin.x origin.y origin.z r.old r.new }
 {
-    let mut k: usize = 0;
-    while k < n {
-        let a = place(w[k * 9 + 6], x);
-        let b = place(w[k * 9 + 7], y);
-        let d = place(w[k * 9 + 8], z);
-        r[k * 3] = a;
-        r[k * 3 + 1] = b;
-        r[k * 3 + 2] = d;
-        k += 1;
+    for k in 0..n {
+        let x = place(w[k * 9 + 6], origin.x);
+        let y = place(w[k * 9 + 7], origin.y);
+        let z = place(w[k * 9 + 8], origin.z);
+        r[k * 3] = x;
+        r[k * 3 + 1] = y;
+        r[k * 3 + 2] = z;
     }
 }

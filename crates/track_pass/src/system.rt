@@ -3,9 +3,10 @@ ghost use Rattle.std.specs.Prelude.{◌≡◌, ◌+◌, ◌-◌, ◌*◌, ◌<�
 ghost use Rattle.lists.specs.Memory.{lent};
 ghost use Rattle.exact.specs.Float.{◌⊗◌, ◌⊘◌};
 ghost use Rattle.track_tridiagonal.specs.Steps.{NumbersAt};
-ghost use Rattle.track_pass.specs.Input.{lent_measured};
-ghost use Rattle.track_pass.specs.Steps.{measured_now, AnchorAdded, LinkAdded, Addable, AddedBy, anchor_change, link_change};
+ghost use Rattle.track_pass.specs.Input.{measured_in};
+ghost use Rattle.track_pass.specs.Steps.{AnchorAdded, LinkAdded, Addable, AddedBy, anchor_change, link_change};
 
+use crate::measured::Measured;
 use numeric::order::float;
 
 // Adds an anchor to the row of one axis with its diagonal at `at`: its scale c, sigma s and place v from the origin. False where a NaN would be stored.
@@ -48,24 +49,18 @@ fn add_link(w: &mut [u64], at: usize, c: f64, s: f64, v: f64) -> bool
 }
 
 // Adds the anchors, whose scales come after the n rows. False where a NaN would be stored.
-pub(crate) fn add_anchors(
-    w: &mut [u64],
-    n: usize,
-    count: usize,
-    index: &[usize],
-    value: &[f64],
-    sigma: &[f64],
-) -> bool
-    requires { (0 < count) × Addable (measured_now count index value sigma) n n (n * 9) w.old }
-    ensures { AddedBy anchor_change (lent_measured count index value sigma) n (n * 9) (lent w) result }
+pub(crate) fn add_anchors(w: &mut [u64], n: usize, anchors: Measured<'_>) -> bool
+    requires { (0 < anchors.count) × Addable (measured_in anchors) n n (n * 9) w.old }
+    ensures { AddedBy anchor_change (measured_in anchors.entry) n (n * 9) (lent w) result }
 {
     let from = n * 9;
+    let value = anchors.value;
+    let sigma = anchors.sigma;
     let ox = value[0];
     let oy = value[1];
     let oz = value[2];
-    let mut j: usize = 0;
-    while j < count {
-        let at = index[j] * 9;
+    for j in 0..anchors.count {
+        let at = anchors.epoch[j] * 9;
         let y_at = at + 1;
         let z_at = at + 2;
         let a = j * 3;
@@ -76,28 +71,21 @@ pub(crate) fn add_anchors(
         if !(x & (y & z)) {
             return false;
         }
-        j += 1;
     }
     true
 }
 
-// Adds the links, whose scales stand `skip` places after the n rows. False where a NaN would be stored.
-pub(crate) fn add_links(
-    w: &mut [u64],
-    n: usize,
-    skip: usize,
-    count: usize,
-    index: &[usize],
-    value: &[f64],
-    sigma: &[f64],
-) -> bool
-    requires { Addable (measured_now count index value sigma) (n - 1) n (n * 9 + skip) w.old }
-    ensures { AddedBy link_change (lent_measured count index value sigma) n (n * 9 + skip) (lent w) result }
+// Adds the links, whose scales stand `skip` places after the n rows. False where a NaN would be stored. It is apart from `add_anchors`, whose rows, bound of an epoch
+// and values differ: only the walk is alike.
+pub(crate) fn add_links(w: &mut [u64], n: usize, skip: usize, links: Measured<'_>) -> bool
+    requires { Addable (measured_in links) (n - 1) n (n * 9 + skip) w.old }
+    ensures { AddedBy link_change (measured_in links.entry) n (n * 9 + skip) (lent w) result }
 {
     let from = n * 9 + skip;
-    let mut j: usize = 0;
-    while j < count {
-        let at = index[j] * 9;
+    let value = links.value;
+    let sigma = links.sigma;
+    for j in 0..links.count {
+        let at = links.epoch[j] * 9;
         let y_at = at + 1;
         let z_at = at + 2;
         let a = j * 3;
@@ -108,7 +96,6 @@ pub(crate) fn add_links(
         if !(x & (y & z)) {
             return false;
         }
-        j += 1;
     }
     true
 }

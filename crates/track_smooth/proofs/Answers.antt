@@ -1,4 +1,5 @@
 -- What the call answers and leaves, from its steps; and that every coordinate of a track is finite. Assumes nothing.
+use Rattle.std.specs.Prelude.{Result, Ok, Err, ⊤}
 use mathlib.Core.Path.{◌≡◌, refl, sym, ◌∙◌, ap}
 use mathlib.Core.Bool.{Bool, true, false, not}
 use mathlib.Core.List.{List, [], ◌∷◌}
@@ -15,7 +16,6 @@ use Rattle.track_pass.specs.Input.{Trajectory, work_need}
 use Rattle.track_pass.specs.Pass.{pass_succeeds}
 use Rattle.track_pass.specs.Steps.{Ready}
 use Rattle.track_smooth.specs.declared.Settings.{Settings}
-use Rattle.track_smooth.specs.declared.Track.{Track}
 use Rattle.track_smooth.specs.Track.{ones, smoothed, points, good_passes}
 use Rattle.track_smooth.specs.Answer.{counts_ok, settings_ok, records_ok, track_ok, Tracked, Refused, Points, track_of, track_result_after, cleared, work_after, TrackLeft, CallOf}
 use Rattle.track_smooth.specs.Steps.{track_checked, FitDone}
@@ -71,18 +71,18 @@ module _ (p : Trajectory) (s : Settings) (r w r' w' : List ℕ) (t : Tracked) (e
 -- ---- the call's ends
 
 module _ (p : Trajectory) (s : Settings) (r w : List ℕ) where
-  abbrev Ends : Track → List ℕ → List ℕ → Type 0
+  abbrev Ends : Result ⊤ Refusal → List ℕ → List ℕ → Type 0
   Ends x r' w' = CallOf p s (track_of p s (length r) (length w)) r w x r' w'
 
   -- a refusal under 2 to 6 leaves all as it was
-  pub turned-back : (x : Refusal) → track_checked p s (length r) (length w) ≡ Track.Refused x → Ends (Track.Refused x) r w
+  pub turned-back : (x : Refusal) → track_checked p s (length r) (length w) ≡ Err x → Ends (Err x) r w
   unfolding track_of
   turned-back x q =
       let k = refused-early (counts_ok p (length r) (length w)) (settings_ok s) (records_ok p) (track_ok p) (rule FitFailed (not (pass_succeeds p ones)) ∷ []) (Points (points (smoothed p s.huber s.iterations) p.n)) x q in
       let e : track_of p s (length r) (length w) ≡ Refused x = k.answer in
       record { answer = rw e; left = leaves p s r w r w (Refused x) e refl (rw k.number) }
 
-  module _ (q : track_checked p s (length r) (length w) ≡ Track.Smoothed) where
+  module _ (q : track_checked p s (length r) (length w) ≡ (Ok tt)) where
     ok-all : AllOk (counts_ok p (length r) (length w)) (settings_ok s) (records_ok p) (track_ok p)
     ok-all = none-applies (counts_ok p (length r) (length w)) (settings_ok s) (records_ok p) (track_ok p) q
 
@@ -96,13 +96,13 @@ module _ (p : Trajectory) (s : Settings) (r w : List ℕ) where
       clear : w2 ≡ cleared (work_need p) w
       clear = fill-list (work_need p) 0 w w2 lw is-ready.work (λ k h. c.filled k (omega arith) h) (λ k h. c.kept.high k h ∙ d.work-kept.high k h)
 
-      pub fit-failed : ok ≡ false → Ends (Track.Refused FitFailed) r1 w2
+      pub fit-failed : ok ≡ false → Ends (Err FitFailed) r1 w2
       unfolding track_of ruled
       fit-failed f =
           let e : track_of p s (length r) (length w) ≡ Refused FitFailed = rw (ok-all.counts, ok-all.settings, ok-all.records, ok-all.track, sym d.answer ∙ f) in
           record { answer = rw e; left = leaves p s r w r1 w2 (Refused FitFailed) e (d.no_same f) clear }
 
-      pub found : ok ≡ true → Ends Track.Smoothed r1 w2
+      pub found : ok ≡ true → Ends (Ok tt) r1 w2
       unfolding track_of ruled
       found t =
           let f = smoothed p s.huber s.iterations in

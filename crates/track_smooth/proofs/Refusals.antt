@@ -1,11 +1,15 @@
 -- The tests of why a call turns back, and what they tell. Assumes nothing.
+use Rattle.std.specs.Prelude.{Result, Ok, Err, ⊤}
 use mathlib.Core.Path.{◌≡◌, refl, sym, ◌∙◌, ap, ap₂}
-use mathlib.Core.Bool.{Bool, true, false, not, ◌&&◌}
+use mathlib.Core.Bool.{Bool, true, false, not, ◌&&◌, and-true}
 use mathlib.Core.List.{List, [], ◌∷◌, ◌++◌}
-use Prim.Native.Nat.{ℕ, ◌+◌, ◌-◌, ◌*◌, ◌≤◌, ◌<◌}
+use Prim.Native.Nat.{ℕ, zero, suc, ◌+◌, ◌-◌, ◌*◌, ◌≤◌, ◌<◌}
 use native.Mathlib.Omega.{arith}
 use lib.Dec.{leb, ltb}
-use lib.ListN.{length, get_or}
+use lib.ListN.{length, get_or, take}
+use lib.Seq.{take-suc}
+use Rattle.std.specs.List.{list_all}
+use Rattle.std.proofs.lemmas.List.Folds.{list_all-append}
 use lib.Ieee.{Float, nan, lt}
 use borrow.Author.Tests.{lt-ltb, le-ltb, leb-true, ltb-true, le-leb, lt-leb}
 use Rattle.exact.specs.Float.{+0}
@@ -19,41 +23,18 @@ use Rattle.track_tridiagonal.proofs.EachBelow.{each_next, each-stop, each_all, e
 use Rattle.track_pass.specs.Input.{Measured, Trajectory, index_at, work_need}
 use Rattle.track_pass.specs.Steps.{Valid, Ready}
 use Rattle.track_smooth.specs.declared.Settings.{Settings}
-use Rattle.track_smooth.specs.declared.Track.{Track}
 use Rattle.track_smooth.specs.Answer.{columns_ok, counts_ok, settings_ok, measured_ok, records_ok, sigmas_ok, indices_ok, track_ok, Tracked, Refused}
 use Rattle.track_smooth.specs.Steps.{track_checked}
 use Rattle.track_smooth.proofs.Finite.{origin-small}
 
--- ---- a test of each element, one at a time
+-- ---- a test of each element
 
-module _ (v : List Float) (k n : ℕ) where
-  pub above_more : each_below (λ k. lt +0 (get_or v k nan)) k ≡ true → lt +0 (get_or v k nan) ≡ true → each_below (λ k. lt +0 (get_or v k nan)) (k + 1) ≡ true
-  above_more s e = each_next (λ k. lt +0 (get_or v k nan)) k true s e
-
-  pub above-stop : each_below (λ k. lt +0 (get_or v k nan)) k ≡ true → k < n → lt +0 (get_or v k nan) ≡ false → false ≡ each_below (λ k. lt +0 (get_or v k nan)) n
-  above-stop s h e = each-stop (λ k. lt +0 (get_or v k nan)) k n s h e
-
-  pub above-all : each_below (λ k. lt +0 (get_or v k nan)) k ≡ true → k ≡ n → true ≡ each_below (λ k. lt +0 (get_or v k nan)) n
-  above-all s e = each_all (λ k. lt +0 (get_or v k nan)) k n s e
-
-  pub range-more : each_below (λ k. in_range (get_or v k nan)) k ≡ true → in_range (get_or v k nan) ≡ true → each_below (λ k. in_range (get_or v k nan)) (k + 1) ≡ true
-  range-more s e = each_next (λ k. in_range (get_or v k nan)) k true s e
-
-  pub range-stop : each_below (λ k. in_range (get_or v k nan)) k ≡ true → k < n → in_range (get_or v k nan) ≡ false → false ≡ each_below (λ k. in_range (get_or v k nan)) n
-  range-stop s h e = each-stop (λ k. in_range (get_or v k nan)) k n s h e
-
-  pub range_all : each_below (λ k. in_range (get_or v k nan)) k ≡ true → k ≡ n → true ≡ each_below (λ k. in_range (get_or v k nan)) n
-  range_all s e = each_all (λ k. in_range (get_or v k nan)) k n s e
-
-module _ (v : List ℕ) (k n bound : ℕ) where
-  pub below_more : each_below (λ j. ltb (get_or v j 0) bound) k ≡ true → get_or v k 0 < bound → each_below (λ j. ltb (get_or v j 0) bound) (k + 1) ≡ true
-  below_more s h = each_next (λ j. ltb (get_or v j 0) bound) k true s (lt-ltb _ _ h)
-
-  pub below-stop : each_below (λ j. ltb (get_or v j 0) bound) k ≡ true → k < n → bound ≤ get_or v k 0 → false ≡ each_below (λ j. ltb (get_or v j 0) bound) n
-  below-stop s h g = each-stop (λ j. ltb (get_or v j 0) bound) k n s h (le-ltb _ _ g)
-
-  pub below_all : each_below (λ j. ltb (get_or v j 0) bound) k ≡ true → k ≡ n → true ≡ each_below (λ j. ltb (get_or v j 0) bound) n
-  below_all s e = each_all (λ j. ltb (get_or v j 0) bound) k n s e
+-- of the first n elements, and of their places
+pub all-below : {A : Type 0} (f : A → Bool) (v : List A) (d : A) (n : ℕ) → n ≤ length v → list_all f (take n v) ≡ each_below (λ k. f (get_or v k d)) n
+unfolding each_below
+all-below f v d zero h = refl
+all-below f v d (suc n) h =
+    rw (take-suc v n d h, list_all-append f (take n v) (get_or v n d ∷ []), all-below f v d n (omega (arith, h)), and-true (f (get_or v n d)))
 
 -- ---- tests together
 
@@ -111,26 +92,26 @@ module _ (p : Trajectory) where
 -- ---- the rules in order
 
 module _ (p : Trajectory) (s : Settings) (r w : ℕ) where
-  pub too_many : counts_ok p r w ≡ false → Track.Refused TooMany ≡ track_checked p s r w
+  pub too_many : counts_ok p r w ≡ false → Err TooMany ≡ track_checked p s r w
   unfolding ruled
   too_many e = rw e
 
   module _ (e2 : counts_ok p r w ≡ true) where
-    pub bad-settings : settings_ok s ≡ false → Track.Refused SettingOutOfRange ≡ track_checked p s r w
+    pub bad-settings : settings_ok s ≡ false → Err SettingOutOfRange ≡ track_checked p s r w
     unfolding ruled
     bad-settings e = rw (e2, e)
 
     module _ (e3 : settings_ok s ≡ true) where
-      pub bad-records : records_ok p ≡ false → Track.Refused RecordOutOfRange ≡ track_checked p s r w
+      pub bad-records : records_ok p ≡ false → Err RecordOutOfRange ≡ track_checked p s r w
       unfolding ruled
       bad-records e = rw (e2, e3, e)
 
       module _ (e4 : records_ok p ≡ true) where
-        pub bad-track : track_ok p ≡ false → Track.Refused BadTrack ≡ track_checked p s r w
+        pub bad-track : track_ok p ≡ false → Err BadTrack ≡ track_checked p s r w
         unfolding ruled
         bad-track e = rw (e2, e3, e4, e)
 
-        pub all-checked : track_ok p ≡ true → Track.Smoothed ≡ track_checked p s r w
+        pub all-checked : track_ok p ≡ true → (Ok tt) ≡ track_checked p s r w
         unfolding ruled
         all-checked e = rw (e2, e3, e4, e)
 
@@ -142,7 +123,7 @@ pub record Early (x : Refusal) (t : Tracked) : Type 0 where
   pub answer : t ≡ Refused x
   pub number : leb (number_of x) 6 ≡ true
 
-pub refused-early : (b2 b3 b4 b6 : Bool) (more : List Rule) (t : Tracked) (x : Refusal) → ruled Track.Refused (rules b2 b3 b4 b6) Track.Smoothed ≡ Track.Refused x → Early x (ruled Refused (rules b2 b3 b4 b6 ++ more) t)
+pub refused-early : (b2 b3 b4 b6 : Bool) (more : List Rule) (t : Tracked) (x : Refusal) → ◌≡◌ {A = Result ⊤ Refusal} (ruled Err (rules b2 b3 b4 b6) (Ok tt)) (Err x) → Early x (ruled Refused (rules b2 b3 b4 b6 ++ more) t)
 unfolding ruled
 refused-early false b3 b4 b6 more t x e = let q : TooMany ≡ x = cc in record { answer = ap Refused q; number = ap (λ (y : Refusal). leb (number_of y) 6) (sym q) }
 refused-early true false b4 b6 more t x e = let q : SettingOutOfRange ≡ x = cc in record { answer = ap Refused q; number = ap (λ (y : Refusal). leb (number_of y) 6) (sym q) }
@@ -157,7 +138,7 @@ pub record AllOk (b2 b3 b4 b6 : Bool) : Type 0 where
   pub records : b4 ≡ true
   pub track : b6 ≡ true
 
-pub none-applies : (b2 b3 b4 b6 : Bool) → ruled Track.Refused (rules b2 b3 b4 b6) Track.Smoothed ≡ Track.Smoothed → AllOk b2 b3 b4 b6
+pub none-applies : (b2 b3 b4 b6 : Bool) → ◌≡◌ {A = Result ⊤ Refusal} (ruled Err (rules b2 b3 b4 b6) (Ok tt)) (Ok tt) → AllOk b2 b3 b4 b6
 unfolding ruled
 none-applies true true true true e = record { counts = refl; settings = refl; records = refl; track = refl }
 none-applies false b3 b4 b6 e = let z : ◌≡◌ {A = ℕ} 0 1 = cc in absurd (omega arith)

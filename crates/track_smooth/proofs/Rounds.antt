@@ -111,12 +111,12 @@ pub record Fitting (p : Trajectory) (h : Float) (its : ℕ) (w₀ r₀ w r : Lis
   pub stand : Stand p scales w
   pub ahead : Ahead p h its r₀ r done scales
 
-pub fitting-none : (p : Trajectory) (h : Float) (its : ℕ) (w₀ r₀ w : List ℕ) → Filled (p.n * 9) (p.n * 9 + p.anchors.count + p.links.count) 0x3FF0_0000_0000_0000 w₀ w → Fitting p h its w r₀ w r₀ 0
+pub fitting-none : (p : Trajectory) (h : Float) (its : ℕ) (w₀ r₀ w : List ℕ) → Filled (p.n * 9) (p.n * 9 + p.anchors.count + p.links.count) 0x3FF0_0000_0000_0000 w₀ w → length w ≡ length w₀ → Fitting p h its w₀ r₀ w r₀ 0
 unfolding smoothed
-fitting-none p h its w₀ r₀ w f = record {
-  work-kept = kept-none 0 (work_need p) w;
+fitting-none p h its w₀ r₀ w f l = record {
+  work-kept = record { low = λ k g. absurd (omega arith); high = λ k g. f.kept.high k (omega arith) };
   kept = kept-none 0 (p.n * 3) r₀;
-  work-long = refl;
+  work-long = l;
   long = refl;
   few = omega arith;
   scales = ones;
@@ -129,17 +129,6 @@ fitting-none p h its w₀ r₀ w f = record {
     if-first = λ e z. (e, refl);
     if-later = λ e z. absurd (omega arith);
   };
-}
-
--- the passes begin once the scales are set
-pub fit-from : (p : Trajectory) (h : Float) (its : ℕ) (w₀ w w' r : List ℕ) (ok : Bool) (r' : List ℕ) → Filled (p.n * 9) (p.n * 9 + p.anchors.count + p.links.count) 0x3FF0_0000_0000_0000 w₀ w
-    → FitDone p h its w w' r ok r' → FitDone p h its w₀ w' r ok r'
-fit-from p h its w₀ w w' r ok r' f d = record {
-  work-kept = record { low = λ k g. absurd (omega arith); high = λ k g. d.work-kept.high k g ∙ f.kept.high k (omega arith) };
-  kept = d.kept;
-  answer = d.answer;
-  yes-holds = d.yes-holds;
-  no_same = d.no_same;
 }
 
 module _ (p : Trajectory) (v : Valid p) (h : Float) (its : ℕ) (w₀ r₀ w r : List ℕ) (done : ℕ) (s : Fitting p h its w₀ r₀ w r done) (ok : Bool) (w1 r1 : List ℕ) (d : PassDone p w r ok w1 r1) where
@@ -226,3 +215,42 @@ module _ (p : Trajectory) (v : Valid p) (h : Float) (its : ℕ) (w₀ r₀ w r :
               if-later = λ e z. (so.0, tabulated_is r1 p.n g _ (sym (so.1 ∙ from-no p h m s.scales e (omega arith))) holds);
             };
           }
+
+-- ---- good passes
+
+-- `done` good passes are made, the last of them from the work and the result before it
+pub record Gone (p : Trajectory) (h : Float) (its : ℕ) (w₀ r₀ w r : List ℕ) (done : ℕ) : Type 0 where
+  pub passes : ℕ
+  pub count : done ≡ passes + 1
+  pub old-w : List ℕ
+  pub old-r : List ℕ
+  pub fitting : Fitting p h its w₀ r₀ old-w old-r passes
+  pub last : PassDone p old-w old-r true w r
+  pub work-long : length w ≡ length old-w
+  pub long : length r ≡ length old-r
+
+pub gone-on : (p : Trajectory) (h : Float) (its : ℕ) (w₀ r₀ w r w1 r1 : List ℕ) (done : ℕ) → Fitting p h its w₀ r₀ w r done → PassDone p w r true w1 r1 → length w1 ≡ length w → length r1 ≡ length r → Gone p h its w₀ r₀ w1 r1 (done + 1)
+gone-on p h its w₀ r₀ w r w1 r1 done s d a b = record { passes = done; count = refl; old-w = w; old-r = r; fitting = s; last = d; work-long = a; long = b }
+
+module _ (p : Trajectory) (v : Valid p) (h : Float) (its : ℕ) (w₀ r₀ w r : List ℕ) where
+  -- the first pass fails, or a later one
+  pub first-fails : (w1 r1 : List ℕ) → Fitting p h its w₀ r₀ w r 0 → PassDone p w r false w1 r1 → FitDone p h its w₀ w1 r₀ false r1
+  first-fails w1 r1 s d = fitting-fails p v h its w₀ r₀ w r 0 s false w1 r1 d refl false (λ e. let z : ◌≡◌ {A = ℕ} 0 1 = cc in absurd (omega arith)) (λ e. refl)
+
+  pub later-fails : (done : ℕ) (w1 r1 : List ℕ) → 0 < done → Fitting p h its w₀ r₀ w r done → PassDone p w r false w1 r1 → FitDone p h its w₀ w1 r₀ true r1
+  later-fails done w1 r1 m s d = fitting-fails p v h its w₀ r₀ w r done s false w1 r1 d refl true (λ e. m) (λ e. let z : ◌≡◌ {A = ℕ} 0 1 = cc in absurd (omega arith))
+
+  module _ (done : ℕ) (g : Gone p h its w₀ r₀ w r done) where
+    pub gone-long : (length w ≡ length w₀) × (length r ≡ length r₀)
+    gone-long = (g.work-long ∙ g.fitting.work-long, g.long ∙ g.fitting.long)
+
+    pub gone-ends : its ≤ done → FitDone p h its w₀ w r₀ true r
+    gone-ends m = fitting-ends p v h its w₀ r₀ g.old-w g.old-r g.passes g.fitting true w r g.last refl (omega (arith, g.count))
+
+    module _ (rs : List ℕ) (long-rs : length rs ≡ p.n * 3) (same : (k : ℕ) → k < p.n * 3 → get_or rs k 0 ≡ get_or r k 0) where
+      pub gone-numbers : Numbers rs
+      gone-numbers = fit-numbers p v h its w₀ r₀ g.old-w g.old-r g.passes g.fitting true w r g.last refl rs long-rs same
+
+      pub gone-more : done < its → (w2 : List ℕ) → Reweighed p h rs w w2 → length w2 ≡ length w → Fitting p h its w₀ r₀ w2 r done
+      gone-more m w2 x l =
+          rw g.count (fitting-more p v h its w₀ r₀ g.old-w g.old-r g.passes g.fitting true w r g.last refl rs long-rs same (omega (arith, g.count)) w2 x g.work-long l g.long)

@@ -1,4 +1,6 @@
 -- The scales of the measurements, one at a time. Assumes nothing.
+use Rattle.std.specs.Prelude.{Option, Some, None}
+use Rattle.std.proofs.lemmas.Option.{none-some, same_Some}
 use mathlib.Core.Path.{◌≡◌, refl, sym, ◌∙◌, ap, ap₂}
 use mathlib.Core.Bool.{true, false, ◌&&◌}
 use mathlib.Core.Logic.{⊎_elim}
@@ -42,25 +44,14 @@ huber-far h z m e f = rw (e, f, floor-is)
 
 -- ---- the limit
 
-no_number : bits 0 ⊘ bits 0 ≡ nan
-unfolding div of_bits
-no_number = refl
-
-above-nan : (q : Float) → le q nan ≡ true → ⊥
-unfolding le
-above-nan nan e = let z : ◌≡◌ {A = ℕ} 0 1 = cc in omega arith
-above-nan (inf s) e = let z : ◌≡◌ {A = ℕ} 0 1 = cc in omega arith
-above-nan (fin s m k) e = let z : ◌≡◌ {A = ℕ} 0 1 = cc in omega arith
-
--- no float is at most a NaN
-pub no-limit : (h : Float) → Limit h (bits 0 ⊘ bits 0)
-no-limit h = record { within = λ q f p e. absurd (above-nan q (rw no_number at e)) }
+pub no-limit : (h : Float) → Limit h None
+no-limit h = record { within = λ most q n f p e. absurd (none-some most n) }
 
 infinity-is : 1·0 ⊘ +0 ≡ inf false
 unfolding div of_bits
 infinity-is = refl
 
-pub some-limit : (h z : Float) → z ≡ root_of (h ⊗ h) → (lt +0 h && (lt +0 (h ⊗ h) && (lt (h ⊗ h) (1·0 ⊘ +0) && le z h))) ≡ true → Limit h (h ⊗ h)
+pub some-limit : (h z : Float) → z ≡ root_of (h ⊗ h) → (lt +0 h && (lt +0 (h ⊗ h) && (lt (h ⊗ h) (1·0 ⊘ +0) && le z h))) ≡ true → Limit h (Some (h ⊗ h))
 some-limit h z ez e =
     let c = h ⊗ h in
     let A = lt +0 h in
@@ -70,11 +61,11 @@ some-limit h z ez e =
     let e1 = right-true A (B && (C && D)) e in
     let e2 = right-true B (C && D) e1 in
     record {
-      within = λ q f p l. root-within q c h f (mul-fits binary64 h h) p (rw infinity-is at (left-true C D e2)) (left-true B (C && D) e1) (left-true A (B && (C && D)) e) l (rw ez at (right-true C D e2));
+      within = λ most q n f p m. let l = rw (← same_Some _ _ n) at m in root-within q c h f (mul-fits binary64 h h) p (rw infinity-is at (left-true C D e2)) (left-true B (C && D) e1) (left-true A (B && (C && D)) e) l (rw ez at (right-true C D e2));
     }
 
-pub scale-near : (h c q : Float) → Limit h c → T (fits binary64 q) → (lt +0 q && le q c) ≡ true → 1·0 ≡ huber_of h (root_of q)
-scale-near h c q l f e = huber-near h (root_of q) (l.within q f (left-true (lt +0 q) (le q c) e) (right-true (lt +0 q) (le q c) e))
+pub scale-near : (h c q : Float) {o : Option Float} → Limit h o → o ≡ Some c → T (fits binary64 q) → (lt +0 q && le q c) ≡ true → 1·0 ≡ huber_of h (root_of q)
+scale-near h c q l n f e = huber-near h (root_of q) (l.within c q n f (left-true (lt +0 q) (le q c) e) (right-true (lt +0 q) (le q c) e))
 
 -- ---- a distance from three residuals and three sigmas
 

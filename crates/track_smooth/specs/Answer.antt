@@ -1,4 +1,5 @@
 -- The answer of a track (docs/REFUSALS.md) and what lent memory holds after it. Definitions only.
+use Rattle.std.specs.Prelude.{Result, Ok, Err, ⊤}
 use Rattle.std.specs.Prelude.{◌≡◌, Bool, true, not, ◌&&◌, cond, List, [], ◌∷◌, ◌++◌, map, ℕ, ◌-◌, ◌*◌, ◌<◌, leb, ltb, length, get_or, replicate, drop, Float}
 use Rattle.std.specs.Float.{nan}
 use Rattle.std.specs.Float.Ieee.{lt}
@@ -15,7 +16,6 @@ use Rattle.track_tridiagonal.specs.Tridiagonal.{each_below}
 use Rattle.track_pass.specs.Input.{Measured, Trajectory, index_at, work_need}
 use Rattle.track_pass.specs.Pass.{pass_succeeds, fitted_at, PassAccurate}
 use Rattle.track_smooth.specs.declared.Settings.{Settings}
-use Rattle.track_smooth.specs.declared.Track.{Track}
 use Rattle.track_smooth.specs.Track.{ones, smoothed, points, good_passes, last_pass, EachPass}
 
 -- ---- the tests, in checking order
@@ -71,15 +71,10 @@ track_of p s r w =
     ruled Refused (track_rules p s r w ++ rule FitFailed (not (pass_succeeds p ones)) ∷ [])
     (Points (points (smoothed p s.huber s.iterations) p.n))
 
--- the enum of the answer, without the points, which the result holds
-abbrev pub track_answer : Tracked → Track
-track_answer (Refused x) = Track.Refused x
-track_answer (Points ps) = Track.Smoothed
-
--- what an answer is outside: 0, or the number of the refusal
-abbrev pub track_number : Track → ℕ
-track_number (Track.Refused x) = number_of x
-track_number Track.Smoothed = 0
+-- the answer without the points, which the result holds
+abbrev pub track_answer : Tracked → Result ⊤ Refusal
+track_answer (Refused x) = Err x
+track_answer (Points ps) = Ok tt
 
 -- ---- the lent memory afterwards
 
@@ -109,10 +104,10 @@ pub record TrackLeft (p : Trajectory) (s : Settings) (t : Tracked) (r w r' w' : 
   pub accurate : EachPass (PassAccurate p) (good_passes p s.huber s.iterations)
 
 -- what the call answers, and leaves of the result and the work that it is lent
-pub record CallOf (p : Trajectory) (s : Settings) (t : Tracked) (r w : List ℕ) (x : Track) (r' w' : List ℕ) : Type 0 where
+pub record CallOf (p : Trajectory) (s : Settings) (t : Tracked) (r w : List ℕ) (x : Result ⊤ Refusal) (r' w' : List ℕ) : Type 0 where
   pub answer : x ≡ track_answer t
   pub left : TrackLeft p s t r w r' w'
 
-abbrev pub Called : Trajectory → Settings → (result work : LentNumbers) → Track → Type 0
+abbrev pub Called : Trajectory → Settings → (result work : LentNumbers) → Result ⊤ Refusal → Type 0
 Called p s result work x =
     CallOf p s (track_of p s (length (before result)) (length (before work))) (before result) (before work) x (after result) (after work)

@@ -1,4 +1,6 @@
 -- What each step of the fit leaves in the lent memory. Definitions only.
+use Rattle.std.specs.Prelude.{Result, Ok, Err, ⊤, Option, Some}
+use Rattle.numeric.specs.declared.refusal.Refusal.{Refusal}
 use Rattle.std.specs.Prelude.{◌≡◌, Bool, true, false, List, ℕ, ◌+◌, ◌*◌, ◌≤◌, ◌<◌, T, length, get_or, Float}
 use Rattle.std.specs.Float.{nan, binary64}
 use Rattle.std.specs.Float.Ieee.{fits, is_nan, lt, le}
@@ -13,13 +15,12 @@ use Rattle.track_pass.specs.Input.{Measured, Trajectory, work_need}
 use Rattle.track_pass.specs.Pass.{pass_succeeds}
 use Rattle.track_pass.specs.Steps.{Lent, Valid, Tabulated}
 use Rattle.track_smooth.specs.declared.Settings.{Settings}
-use Rattle.track_smooth.specs.declared.Track.{Track}
 use Rattle.track_smooth.specs.Track.{huber_of, anchor_scale, link_scale, ones, smoothed}
 use Rattle.track_smooth.specs.Answer.{track_rules}
 
 -- the refusal before the fit, `Smoothed` where there is none
-abbrev pub track_checked : Trajectory → Settings → (r w : ℕ) → Track
-track_checked p s r w = ruled Track.Refused (track_rules p s r w) Track.Smoothed
+abbrev pub track_checked : Trajectory → Settings → (r w : ℕ) → Result ⊤ Refusal
+track_checked p s r w = ruled Err (track_rules p s r w) (Ok tt)
 
 -- the fit in a list
 abbrev pub fit_in : List ℕ → ℕ → ℕ → Float
@@ -33,9 +34,9 @@ point_in r i = record { x = float_at r i; y = float_at r (i + 1); z = float_at r
 pub record Numbers (r : List ℕ) : Type 0 where
   pub number : (k : ℕ) → k < length r → is_nan (float_at r k) ≡ false
 
--- the root of a positive float up to c is within the threshold h
-pub record Limit (h c : Float) : Type 0 where
-  pub within : (q : Float) → T (fits binary64 q) → lt +0 q ≡ true → le q c ≡ true → le (root_of q) h ≡ true
+-- the root of a positive float up to the limit c, where there is one, is within the threshold h
+pub record Limit (h : Float) (c : Option Float) : Type 0 where
+  pub within : (most q : Float) → c ≡ Some most → T (fits binary64 q) → lt +0 q ≡ true → le q most ≡ true → le (root_of q) h ≡ true
 
 -- the scale of a measurement that the fit has at f, its floats from place a on
 abbrev pub point_scale : Float → Vec3 → (value sigma : List Float) → ℕ → Float
@@ -44,7 +45,7 @@ point_scale h f v s a =
     ⊕ square ((f.z ⊖ get_or v (a + 2) nan) ⊘ get_or s (a + 2) nan)))
 
 -- measurements with indices below the bound, a limit c of h, room for their scales from the place `from` on, and numbers in the fit r
-pub record Weighable (m : Measured) (bound : ℕ) (h c : Float) (from : ℕ) (w r : List ℕ) : Type 0 where
+pub record Weighable (m : Measured) (bound : ℕ) (h : Float) (c : Option Float) (from : ℕ) (w r : List ℕ) : Type 0 where
   pub lent : Lent m bound
   pub limit : Limit h c
   pub room : from + m.count ≤ length w

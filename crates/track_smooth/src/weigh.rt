@@ -1,8 +1,7 @@
 // How much each measurement counts in the next pass, by how far it lies off the fit.
 ghost use Rattle.std.specs.Prelude.{◌≡◌, ◌+◌, ◌-◌, ◌/◌, ◌<◌, length};
 ghost use Rattle.lists.specs.Memory.{lent};
-ghost use Rattle.track_pass.specs.Input.{lent_measured};
-ghost use Rattle.track_pass.specs.Steps.{measured_now};
+ghost use Rattle.track_pass.specs.Input.{measured_in};
 ghost use Rattle.track_smooth.specs.Track.{huber_of, anchor_scale, link_scale};
 ghost use Rattle.track_smooth.specs.Steps.{Numbers, point_in, Limit, point_scale, Weighable, WeighedBy};
 
@@ -10,6 +9,7 @@ use numeric::order::pattern;
 use numeric::real::max;
 use numeric::vec3::Vec3;
 use root::sqrt::sqrt;
+use track_pass::measured::Measured;
 
 // Computes the scale of a residual at z sigmas.
 fn huber(h: f64, z: f64) -> f64
@@ -21,16 +21,16 @@ fn huber(h: f64, z: f64) -> f64
     h / max(z, 1e-12)
 }
 
-// Computes a bound for the square of a distance: up to it the distance is within the threshold h. A NaN where there is none.
-pub(crate) fn limit(h: f64) -> f64
+// Computes a bound for the square of a distance: up to it the distance is within the threshold h.
+pub(crate) fn limit(h: f64) -> Option<f64>
     ensures { Limit h result }
 {
     let c = h * h;
     let z = sqrt(c);
     if (0.0 < h) & ((0.0 < c) & ((c < 1.0 / 0.0) & (z <= h))) {
-        return c;
+        return Some(c);
     }
-    0.0 / 0.0
+    None
 }
 
 // Reads x, y, z of the fit from place i on.
@@ -44,8 +44,8 @@ fn point(r: &[u64], i: usize) -> Vec3
     Vec3 { x: x, y: y, z: z }
 }
 
-// Computes the scale of a measurement whose floats start at place a and which the fit has at f. Most lie within the limit c of h and need no root.
-fn scale(f: Vec3, value: &[f64], sigma: &[f64], a: usize, h: f64, c: f64) -> f64
+// Computes the scale of a measurement whose floats start at place a and which the fit has at f. Most lie within the limit c of h, where there is one, and need no root.
+fn scale(f: Vec3, value: &[f64], sigma: &[f64], a: usize, h: f64, c: Option<f64>) -> f64
     requires { (a + 2 < length value.now) × (a + 2 < length sigma.now) × Limit h c }
     ensures { result ≡ point_scale h f value.now sigma.now a }
 {
@@ -53,8 +53,10 @@ fn scale(f: Vec3, value: &[f64], sigma: &[f64], a: usize, h: f64, c: f64) -> f64
     let y = (f.y - value[a + 1]) / sigma[a + 1];
     let z = (f.z - value[a + 2]) / sigma[a + 2];
     let q = x * x + y * y + z * z;
-    if (0.0 < q) & (q <= c) {
-        return 1.0;
+    if let Some(most) = c {
+        if (0.0 < q) & (q <= most) {
+            return 1.0;
+        }
     }
     huber(h, sqrt(q))
 }
@@ -63,47 +65,37 @@ fn scale(f: Vec3, value: &[f64], sigma: &[f64], a: usize, h: f64, c: f64) -> f64
 pub(crate) fn weigh_anchors(
     w: &mut [u64],
     from: usize,
-    count: usize,
-    index: &[usize],
-    value: &[f64],
-    sigma: &[f64],
+    anchors: Measured<'_>,
     h: f64,
-    c: f64,
+    c: Option<f64>,
     r: &[u64],
 )
-    requires { Weighable (measured_now count index value sigma) (length r.now / 3) h c from w.old r.now }
-    ensures { WeighedBy anchor_scale (lent_measured count index value sigma) h r from (lent w) }
+    requires { Weighable (measured_in anchors) (length r.now / 3) h c from w.old r.now }
+    ensures { WeighedBy anchor_scale (measured_in anchors.entry) h r from (lent w) }
 {
-    let mut j: usize = 0;
-    while j < count {
-        let i = index[j] * 3;
+    for j in 0..anchors.count {
+        let i = anchors.epoch[j] * 3;
         let f = point(r, i);
-        w[from + j] = pattern(scale(f, value, sigma, j * 3, h, c));
-        j += 1;
+        w[from + j] = pattern(scale(f, anchors.value, anchors.sigma, j * 3, h, c));
     }
 }
 
-// Weighs the links by the fit in r.
+// Weighs the links by the fit in r. It is apart from `weigh_anchors`, whose bound of an epoch and residual differ: only the walk is alike.
 pub(crate) fn weigh_links(
     w: &mut [u64],
     from: usize,
-    count: usize,
-    index: &[usize],
-    value: &[f64],
-    sigma: &[f64],
+    links: Measured<'_>,
     h: f64,
-    c: f64,
+    c: Option<f64>,
     r: &[u64],
 )
-    requires { Weighable (measured_now count index value sigma) (length r.now / 3 - 1) h c from w.old r.now }
-    ensures { WeighedBy link_scale (lent_measured count index value sigma) h r from (lent w) }
+    requires { Weighable (measured_in links) (length r.now / 3 - 1) h c from w.old r.now }
+    ensures { WeighedBy link_scale (measured_in links.entry) h r from (lent w) }
 {
-    let mut j: usize = 0;
-    while j < count {
-        let i = index[j] * 3;
+    for j in 0..links.count {
+        let i = links.epoch[j] * 3;
         let f = point(r, i);
         let g = point(r, i + 3);
-        w[from + j] = pattern(scale(g.sub(f), value, sigma, j * 3, h, c));
-        j += 1;
+        w[from + j] = pattern(scale(g.sub(f), links.value, links.sigma, j * 3, h, c));
     }
 }

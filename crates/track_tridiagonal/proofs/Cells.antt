@@ -103,21 +103,6 @@ kept_then lo hi lo' hi' w w' w'' a b s t = record {
 
 -- ---- filling
 
-pub filled_none : (lo : ℕ) (v : ℕ) (w : List ℕ) → Filled lo lo v w w
-filled_none lo v w = record { kept = kept-none lo lo w; filled = λ k a b. absurd (omega arith) }
-
-pub filled_more : (lo hi : ℕ) (v : ℕ) (w w' : List ℕ) → lo ≤ hi → hi < length w' → Filled lo hi v w w' → Filled lo (hi + 1) v w (set w' hi v)
-filled_more lo hi v w w' a b s = record {
-  kept = record { low = λ k h. miss w' hi k v (omega arith) ∙ s.kept.low k h; high = λ k h. miss w' hi k v (omega arith) ∙ s.kept.high k (omega arith) };
-  filled = λ k h g. ⊎_elim
-      (λ e. hit w' hi k v b (omega arith))
-      (λ l. miss w' hi k v (omega arith) ∙ s.filled k h (omega arith))
-      (eq-or-lt_of_le g);
-}
-
-pub filled-all : (lo k hi : ℕ) (v : ℕ) (w w' : List ℕ) → k ≡ hi → Filled lo k v w w' → Filled lo hi v w w'
-filled-all lo k hi v w w' e s = rw e at s
-
 pub miss3 : (xs : List ℕ) (i j l k : ℕ) (v w y : ℕ) → (k ≡ i → ⊥) → (k ≡ j → ⊥) → (k ≡ l → ⊥) → get_or (set (set (set xs i v) j w) l y) k 0 ≡ get_or xs k 0
 miss3 xs i j l k v w y h g f = miss (set (set xs i v) j w) l k y f ∙ miss2 xs i j k v w h g
 

@@ -251,6 +251,13 @@ module _ (w₀ : List ℕ) (n i : ℕ) (w : List ℕ) (x y z : Row) (s : Elimina
     ends = λ q. let z : ◌≡◌ {A = ℕ} 0 1 = cc in absurd (omega arith);
   }
 
+  pub eliminating_done : n ≤ i + 1 → Eliminated w₀ n (x.good && (y.good && z.good)) w
+  eliminating_done h = go (x.good && (y.good && z.good)) refl
+    where
+      go : (b : Bool) → (x.good && (y.good && z.good)) ≡ b → Eliminated w₀ n b w
+      go true e = eliminating_all e h
+      go false e = eliminating_ends e
+
 -- one row more: the calls on x, y and z, from w to w1, w2 and w3
 module _ (w₀ : List ℕ) (n i : ℕ) (w : List ℕ) (x y z : Row) (s : Eliminating w₀ n i w x y z) (m : Axes (λ t. NoNan (axis_in w₀ t) n)) (g : (x.good && (y.good && z.good)) ≡ true) (more : i + 1 < n)
     (at : ℕ) (place : at ≡ i * 9) where

@@ -240,9 +240,6 @@ module _ (w₀ : List ℕ) (n k : ℕ) (w : List ℕ) (x y z : Float) (s : Subst
 pub at_next : (w₀ : List ℕ) (n k : ℕ) (w : List ℕ) (x y z : Float) → 0 < k → Substituting w₀ n k w x y z → Substituting w₀ n (k - 1 + 1) w x y z
 at_next w₀ n k w x y z h s = let e : k ≡ k - 1 + 1 = omega arith in subst (λ (q : ℕ). Substituting w₀ n q w x y z) e s
 
-pub last-same : (k n : ℕ) → 0 < k → eqb k n ≡ eqb (k - 1 + 1) n
-last-same k n h = let e : k ≡ k - 1 + 1 = omega arith in ap (λ (q : ℕ). eqb q n) e
-
 pub three-finite : (x y z : Float) (a b c : Bool) → a ≡ finite x → b ≡ finite y → c ≡ finite z → (finite x && (finite y && finite z)) ≡ (a && (b && c))
 three-finite x y z a b c e f g = rw (e, f, g)
 

@@ -7,9 +7,5 @@ pub fn fill(w: &mut [u64], lo: usize, hi: usize, v: u64)
     requires { (lo ≤ hi) × (hi ≤ length w.old) }
     ensures { Filled lo hi v w.old w.new }
 {
-    let mut k = lo;
-    while k < hi {
-        w[k] = v;
-        k += 1;
-    }
+    w[lo..hi].fill(v);
 }

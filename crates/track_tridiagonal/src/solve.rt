@@ -7,7 +7,8 @@ ghost use Rattle.track_tridiagonal.specs.Steps.{NumbersAt, FirstRow, RowEliminat
 
 use numeric::real::{abs, is_finite};
 
-// A row of one system once the rows above are eliminated, and whether the elimination can go on.
+// A row of one system once the rows above are eliminated, and whether the elimination can go on. A flag beside the numbers, and no `Option` around them: one branch
+// tests the three rows of a step.
 #[derive(Clone, Copy)]
 pub struct Row {
     pub pivot: f64,
@@ -42,7 +43,7 @@ fn first_row(w: &[u64], at: usize) -> Row
     Row {
         pivot: p,
         right: q,
-        good: good,
+        good,
     }
 }
 
@@ -61,7 +62,7 @@ fn eliminate_row(w: &mut [u64], at: usize, above: Row) -> Row
     let row = Row {
         pivot: p,
         right: q,
-        good: good,
+        good,
     };
     if !good {
         return row;
@@ -79,23 +80,19 @@ fn eliminate(w: &mut [u64], n: usize) -> bool
     let mut x = first_row(&w[..], 0);
     let mut y = first_row(&w[..], 1);
     let mut z = first_row(&w[..], 2);
-    let mut i: usize = 0;
-    while x.good & (y.good & z.good) {
-        if i + 1 >= n {
-            return true;
+    for i in 0..n - 1 {
+        if !(x.good & (y.good & z.good)) {
+            return false;
         }
         let at = i * 9;
-        let y_at = at + 1;
-        let z_at = at + 2;
         x = eliminate_row(&mut *w, at, x);
-        y = eliminate_row(&mut *w, y_at, y);
-        z = eliminate_row(&mut *w, z_at, z);
-        i += 1;
+        y = eliminate_row(&mut *w, at + 1, y);
+        z = eliminate_row(&mut *w, at + 2, z);
     }
-    false
+    x.good & (y.good & z.good)
 }
 
-// Computes an unknown from its row and the unknown x of the next row, where there is one.
+// Computes an unknown from its row and the unknown x of the next row, where there is one: one flag tells it of the three systems.
 fn unknown(last: bool, d: f64, u: f64, r: f64, x: f64) -> f64
     ensures { result ≡ cond last r (r ⊖ u ⊗ x) ⊘ d }
 {
@@ -129,10 +126,8 @@ fn substitute(w: &mut [u64], n: usize) -> bool
     let mut x = 0.0;
     let mut y = 0.0;
     let mut z = 0.0;
-    let mut k = n;
-    while k > 0 {
-        let last = k == n;
-        k -= 1;
+    for k in (0..n).rev() {
+        let last = k + 1 == n;
         let at = k * 9;
         x = solve_row(&mut *w, at, last, x);
         y = solve_row(&mut *w, at + 1, last, y);

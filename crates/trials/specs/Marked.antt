@@ -1,4 +1,5 @@
 -- docs/SCOPE.md, "Trials at the edges", those marked for proof: one list, in its order. Definitions only.
+use Rattle.std.specs.Prelude.{Ok, Err}
 use Rattle.std.specs.Prelude.{ℕ, ◌⊎◌, ◌≡◌, List, [], ◌∷◌, map, true, false, cond, eqb, ℤ, pos, negsuc, Float}
 use Rattle.std.specs.Float.Ieee.Scale.{finite}
 use Rattle.exact.specs.Float.{+0, 1·0, bits, whole}
@@ -8,15 +9,12 @@ use Rattle.numeric.specs.Order.{pattern_of}
 use Rattle.numeric.specs.declared.refusal.Refusal.TheVariants.{NoCorrection}
 use Rattle.median.specs.Sorted.{median_of}
 use Rattle.median.specs.Centre.{centre_of, deviations_of, centre_scale_of}
-use Rattle.median.specs.declared.centre.Centre.TheVariants.{Of}
 use Rattle.lists.specs.Walk.{fold}
 use Rattle.clocks.specs.Clocks.{none, slot, given}
 use Rattle.records.specs.Record.{usable}
 use Rattle.records.specs.declared.record.Carrier.{Carrier}
 use Rattle.corrections_directory.specs.Directory.{Directory, lent_blocks, directory_in}
 use Rattle.corrections_query.specs.Query.{query_in}
-use Rattle.corrections_query.specs.declared.query.Correction.TheVariants as Correction
-use Rattle.corrections_query.specs.declared.query.Correction.TheVariants.{Metres}
 use Rattle.track_smooth.specs.Trials.{m12, m13}
 
 -- all of a list's statements
@@ -48,7 +46,7 @@ m3 = root_of (bits 1) ≡ bits 0x1E60_0000_0000_0000
 
 -- m4: empty centre
 abbrev pub m4 : Type 0
-m4 = centre_scale_of [] ≡ Of (record { centre = +0; scale = 1·0 })
+m4 = centre_scale_of [] ≡ Ok (record { centre = +0; scale = 1·0 })
 
 -- 3, 1, 2, 4, as patterns
 abbrev pub four : List ℕ
@@ -87,11 +85,11 @@ two_samples = directory_in 1 2 (lent_blocks (1 ∷ 1 ∷ []) (5 ∷ 5 ∷ []) (1
 
 -- m10: gap limit 90: 15 s gives 2 m
 abbrev pub m10 : Type 0
-m10 = query_in 1 2 2 two_samples (whole 90) 1 5 1 (whole 15) ≡ Metres (whole 2)
+m10 = query_in 1 2 2 two_samples (whole 90) 1 5 1 (whole 15) ≡ Ok (whole 2)
 
 -- m11: gap limit 5: 12
 abbrev pub m11 : Type 0
-m11 = query_in 1 2 2 two_samples (whole 5) 1 5 1 (whole 15) ≡ Correction.Refused NoCorrection
+m11 = query_in 1 2 2 two_samples (whole 5) 1 5 1 (whole 15) ≡ Err NoCorrection
 
 -- m12 and m13 are trials of a track, defined in its crate
 abbrev pub marked : List (Type 0)

@@ -1,4 +1,7 @@
 -- What the trial of a carrier's state hands to a displacement, and the trials of a track to the smoother. Definitions only.
+use Rattle.std.specs.Prelude.{Result, Ok, Err}
+use Rattle.numeric.specs.declared.refusal.Refusal.{Refusal}
+use Rattle.tdcp.specs.declared.displacement.Delta.{Delta}
 use Rattle.std.specs.Prelude.{◌≡◌, List, ℕ, ℤ, length, replicate, Float}
 use Rattle.lists.specs.Memory.{before, after, LentNumbers}
 use Rattle.exact.specs.Float.{+0, 1·0, bits}
@@ -6,10 +9,9 @@ use Rattle.numeric.specs.declared.vec3.Vec3.{Vec3}
 use Rattle.tdcp.specs.Displacement.{Input, general}
 use Rattle.records.specs.declared.record.Carrier.{Carrier}
 use Rattle.records.specs.declared.record.Epoch.{Epoch}
-use Rattle.tdcp.specs.declared.displacement.Displacement.{Displacement}
-use Rattle.tdcp.specs.declared.displacement.Displacement.TheVariants.{Refused, Moved}
 use Rattle.track_pass.specs.Input.{trajectory}
-use Rattle.track_smooth.specs.Answer.{Tracked, track_of, track_answer, track_number, track_result_after}
+use Rattle.track_smooth.specs.Answer.{Tracked, track_of, track_answer, track_result_after}
+use Rattle.numeric.specs.Refusal.{answer_number}
 use Rattle.track_smooth.specs.Trials.{usual, one_anchor, no_link}
 
 -- 10
@@ -37,13 +39,13 @@ six_in z =
     (record { screen = bits 0x3FE0_0000_0000_0000; sigma_a = 1·0; sigma_b = +0; huber = 1·0; mask = ten; rounds = 0; agreement = +0 })
 
 -- how many pairs are used, 0 where the displacement is refused
-abbrev pub used_of : Displacement → ℕ
-used_of (Moved d) = d.used
-used_of (Refused r) = 0
+abbrev pub used_of : Result Delta Refusal → ℕ
+used_of (Ok d) = d.used
+used_of (Err r) = 0
 
 -- the number of the answer t, and its result
 pub record Tells (t : Tracked) (r : List ℕ) (number : ℕ) (r' : List ℕ) : Type 0 where
-  pub number_is : number ≡ track_number (track_answer t)
+  pub number_is : number ≡ answer_number (track_answer t)
   pub result-is : r' ≡ track_result_after t r
 
 -- those of n epochs with one anchor and no link

@@ -5,7 +5,7 @@ ghost use Rattle.trials.specs.Steps.{six_in, used_of};
 
 use numeric::vec3::Vec3;
 use records::record::{Carrier, Epoch};
-use tdcp::displacement::{Displacement, Settings, delta_position};
+use tdcp::displacement::{Settings, delta_position};
 
 // How many pairs a displacement of zero rounds uses of six carriers in this state at either epoch, 0 where it is refused.
 fn used_in(state: i32) -> usize
@@ -47,8 +47,8 @@ fn used_in(state: i32) -> usize
     };
     let answer = delta_position(six, six, 1.0, zero, settings);
     match answer {
-        Displacement::Moved(d) => d.used,
-        Displacement::Refused(_) => 0,
+        Ok(d) => d.used,
+        Err(_) => 0,
     }
 }
 

@@ -1,7 +1,7 @@
 // The marked trials of the centre.
 ghost use Rattle.std.specs.Prelude.{◌≡◌, true};
 
-use median::centre::{Centre, centre_scale};
+use median::centre::centre_scale;
 use numeric::order::pattern;
 
 // The empty centre is (0, 1).
@@ -11,8 +11,8 @@ pub fn empty() -> bool
     let none = [0u64; 1];
     let answer = centre_scale(&none[..0]);
     match answer {
-        Centre::Of(c) => (pattern(c.centre) == 0) & (c.scale == 1.0),
-        Centre::Refused(_) => false,
+        Ok(c) => (pattern(c.centre) == 0) & (c.scale == 1.0),
+        Err(_) => false,
     }
 }
 
@@ -23,7 +23,7 @@ pub fn four() -> bool
     let residuals = [pattern(3.0), pattern(1.0), pattern(2.0), pattern(4.0)];
     let answer = centre_scale(&residuals);
     match answer {
-        Centre::Of(c) => (c.centre == 3.0) & (c.scale == 1.4826 * 1.0 + 1e-6),
-        Centre::Refused(_) => false,
+        Ok(c) => (c.centre == 3.0) & (c.scale == 1.4826 * 1.0 + 1e-6),
+        Err(_) => false,
     }
 }

@@ -4,6 +4,7 @@ ghost use Rattle.exact.specs.Float.{whole};
 ghost use Rattle.corrections_query.specs.Query.{query_in, Answers};
 ghost use Rattle.trials.specs.Marked.{two_samples};
 
+use corrections_directory::entry::Table;
 use corrections_queries::queries::{OneAnswer, one_query};
 use numeric::order::pattern;
 
@@ -18,23 +19,18 @@ fn half_way(gap: f64) -> OneAnswer
     let block_samples = [2usize; 2];
     let table_time = [10.0, 20.0];
     let table_metres = [1.0, 3.0];
-    one_query(
-        &block_constellation,
-        &block_svid,
-        &block_band,
-        &block_first,
-        &block_samples,
-        1,
-        &table_time,
-        &table_metres,
-        2,
-        gap,
-        1,
-        5,
-        1,
-        15.0,
-        0,
-    )
+    let table = Table {
+        block_constellation: &block_constellation,
+        block_svid: &block_svid,
+        block_band: &block_band,
+        block_first: &block_first,
+        block_samples: &block_samples,
+        blocks: 1,
+        table_time: &table_time,
+        table_metres: &table_metres,
+        table_count: 2,
+    };
+    one_query(table, gap, 1, 5, 1, 15.0, 0)
 }
 
 // Gap limit 90: 2 m.

@@ -3,6 +3,8 @@ ghost use Rattle.std.specs.Prelude.{◌≡◌, true};
 ghost use Rattle.lists.specs.Memory.{lent};
 ghost use Rattle.trials.specs.Steps.{OneAnchor};
 
+use numeric::refusal::answer_number;
+use track_pass::measured::{Measured, Track};
 use track_smooth::{Settings, smooth};
 
 // Smooths n epochs with one anchor of sigma 1 at (5, 6, 7), of the first epoch, and no link, and returns the number of the answer.
@@ -12,27 +14,28 @@ fn one_anchor(n: usize, res: &mut [u64], work: &mut [u64]) -> u8
     let epoch = [0usize; 1];
     let position = [5.0, 6.0, 7.0];
     let sigma = [1.0; 3];
-    let link_epoch = [0usize; 0];
-    let link_floats = [0.0; 0];
+    let no_epoch = [0usize; 0];
+    let no_float = [0.0; 0];
     let settings = Settings {
         huber: 2.0,
         iterations: 6,
     };
-    let track = smooth(
-        n,
-        1,
-        0,
-        &epoch,
-        &position,
-        &sigma,
-        &link_epoch,
-        &link_floats,
-        &link_floats,
-        settings,
-        res,
-        work,
-    );
-    track.number()
+    let track = Track {
+        epochs: n,
+        anchors: Measured {
+            count: 1,
+            epoch: &epoch,
+            value: &position,
+            sigma: &sigma,
+        },
+        links: Measured {
+            count: 0,
+            epoch: &no_epoch,
+            value: &no_float,
+            sigma: &no_float,
+        },
+    };
+    answer_number(smooth(track, settings, res, work))
 }
 
 // A one-epoch track with one anchor of sigma 1 at (5, 6, 7) is that point, by its patterns.

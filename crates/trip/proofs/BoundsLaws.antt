@@ -1,4 +1,5 @@
 -- What 16 lets pass: the bounds of a trip, which no addition leaves. Assumes nothing.
+use Rattle.std.specs.Prelude.{Ok, Err}
 use mathlib.Core.Path.{◌≡◌, refl}
 use Prim.Native.Nat.{ℕ, ◌*◌, ◌≤◌, ◌<◌}
 use native.Mathlib.Omega.{arith}
@@ -11,7 +12,6 @@ use Rattle.numeric.specs.declared.refusal.Refusal.TheVariants.{BadTrip}
 use Rattle.trip.specs.Measure.{millimetres_of, measurable}
 use Rattle.trip.specs.Trip.{Leg, sound_trip, with_epoch, added, trip_left, with_leg, narrow}
 use Rattle.trip.specs.declared.trip.Trip.{Trip}
-use Rattle.trip.specs.declared.trip.Step.TheVariants.{Refused, Goes}
 use Rattle.trip.proofs.MeasureLaws.{measured}
 
 pub record Bounds (t : Trip) : Type 0 where
@@ -56,7 +56,7 @@ pub after-sound : (t : Trip) (l : Leg) → sound_trip t ≡ true → narrow l �
 unfolding with_leg added trip_left narrow
 after-sound t l s n = go (sound_trip t && ltb t.epochs 65535 && measurable l.displacement) (accepted t l.displacement)
   where
-    go : (b : Bool) → (b ≡ true → Accepted t l.displacement) → sound_trip (trip_left t (cond b (Goes (with_epoch t (millimetres_of l.displacement) l.pulses)) (Refused BadTrip))) ≡ true
+    go : (b : Bool) → (b ≡ true → Accepted t l.displacement) → sound_trip (trip_left t (cond b (Ok (with_epoch t (millimetres_of l.displacement) l.pulses)) (Err BadTrip))) ≡ true
     go false f = s
     go true f =
         let a = f refl in

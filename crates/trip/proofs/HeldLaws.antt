@@ -1,4 +1,7 @@
 -- A trip held as six words: which words 16 lets pass, and that the four calls, from the start on, answer as the list of the epochs that count says. Assumes nothing.
+use Rattle.numeric.specs.Refusal.{answer_number}
+use Rattle.std.specs.Prelude.{Result, Ok, Err}
+use Rattle.numeric.specs.declared.refusal.Refusal.{Refusal}
 use mathlib.Core.Path.{◌≡◌, refl, ap, ◌∙◌, subst}
 use mathlib.Core.Bool.{Bool, true, false, cond, not, ◌&&◌, ◌||◌, and-true, and-false}
 use mathlib.Core.List.{List, [], ◌∷◌, map}
@@ -15,11 +18,8 @@ use Rattle.numeric.specs.declared.vec3.Vec3.{Vec3}
 use Rattle.numeric.specs.declared.refusal.Refusal.TheVariants.{BadTrip, NoDistance}
 use Rattle.trip.specs.Measure.{millimetres_of, measurable}
 use Rattle.trip.specs.Trip.{Leg, carrier_millimetres, pulses_of, odometer, greatest, first_with, greatest_of, reached_of, trip_of, sound_trip, started, with_epoch, added, reported, fuelled, trip_left, with_leg, measurables, counting, narrow}
-use Rattle.trip.specs.Words.{Addition, too_wide, trip_from, held_of, words_of, added_held, added_words, reported_held, reported_words, fuelled_held, fuelled_words, step_number, words_after, report_number, report_after, fuel_number, fuel_after, sound_words, leg_of, words_next, words_after_calls, counted_legs}
+use Rattle.trip.specs.Words.{Addition, too_wide, trip_from, held_of, words_of, added_held, added_words, reported_held, reported_words, fuelled_held, fuelled_words, words_after, report_after, fuel_after, sound_words, leg_of, words_next, words_after_calls, counted_legs}
 use Rattle.trip.specs.declared.trip.Trip.{Trip}
-use Rattle.trip.specs.declared.trip.Step.{Step}
-use Rattle.trip.specs.declared.trip.Step.TheVariants.{Refused, Goes}
-use Rattle.trip.specs.declared.trip.Fuel.TheVariants.{Refused as Unfuelled, PerKilometre}
 use Rattle.trip.proofs.BoundsLaws.{Accepted, accepted}
 use Rattle.trip.proofs.TripLaws.{start-sound, start-goes, trip_law, fold-sound}
 
@@ -45,41 +45,41 @@ module _ (w : List ℕ) where
   t = trip_from w
 
   -- The report is refused by 16 exactly where the words are not sound.
-  pub report-number : report_number (reported_words w) ≡ cond (sound_words w) 0 16
+  pub report-number : answer_number (reported_words w) ≡ cond (sound_words w) 0 16
   unfolding held_of reported_held reported
   report-number = rw (sound-held w) (go (too_wide w) (sound_trip t) refl)
     where
-      go : (a b : Bool) → sound_trip t ≡ b → report_number (reported_held (cond a (Refused BadTrip) (Goes t))) ≡ cond (not a && b) 0 16
+      go : (a b : Bool) → sound_trip t ≡ b → answer_number (reported_held (cond a (Err BadTrip) (Ok t))) ≡ cond (not a && b) 0 16
       go true b e = refl
       go false true e = rw e
       go false false e = rw e
 
   -- So is the fuel, and where they are sound by 17 exactly at zero carrier distance.
-  pub fuel-number : (millilitres : ℕ) → fuel_number (fuelled_words w millilitres) ≡ cond (sound_words w) (cond (eqb (get_or w 2 0) 0) 17 0) 16
+  pub fuel-number : (millilitres : ℕ) → answer_number (fuelled_words w millilitres) ≡ cond (sound_words w) (cond (eqb (get_or w 2 0) 0) 17 0) 16
   unfolding held_of fuelled_held fuelled
   fuel-number millilitres = rw (sound-held w) (go (too_wide w) (sound_trip t) refl (eqb (get_or w 2 0) 0) refl)
     where
       go : (a b : Bool) → sound_trip t ≡ b → (z : Bool) → eqb (get_or w 2 0) 0 ≡ z
-          → fuel_number (fuelled_held (cond a (Refused BadTrip) (Goes t)) millilitres) ≡ cond (not a && b) (cond z 17 0) 16
+          → answer_number (fuelled_held (cond a (Err BadTrip) (Ok t)) millilitres) ≡ cond (not a && b) (cond z 17 0) 16
       go true b e z f = refl
       go false true e true f = rw (e, f)
       go false true e false f = rw (e, f)
       go false false e z f = rw e
 
   -- One epoch more is refused by 16 exactly where they are not sound, the trip is full, or the displacement is not finite or longer than 1,000 m.
-  pub held_number : (d : Vec3) (pulses : ℕ) → step_number (added_held (held_of w) d pulses) ≡ cond (sound_words w && ltb (get_or w 1 0) 65535 && measurable d) 0 16
+  pub held_number : (d : Vec3) (pulses : ℕ) → answer_number (added_held (held_of w) d pulses) ≡ cond (sound_words w && ltb (get_or w 1 0) 65535 && measurable d) 0 16
   unfolding held_of added_held added
   held_number d pulses = rw (sound-held w) (go (too_wide w) (sound_trip t) refl (ltb (get_or w 1 0) 65535) refl (measurable d) refl)
     where
       go : (a b : Bool) → sound_trip t ≡ b → (r : Bool) → ltb (get_or w 1 0) 65535 ≡ r → (m : Bool) → measurable d ≡ m
-          → step_number (added_held (cond a (Refused BadTrip) (Goes t)) d pulses) ≡ cond (not a && b && r && m) 0 16
+          → answer_number (added_held (cond a (Err BadTrip) (Ok t)) d pulses) ≡ cond (not a && b && r && m) 0 16
       go true b e r f m g = refl
       go false false e r f m g = rw e
       go false true e false f m g = rw (e, f)
       go false true e true f false g = rw (e, f, g)
       go false true e true f true g = rw (e, f, g)
 
-  pub add-number : (d : List Float) (pulses : ℕ) → step_number (added_words w d pulses) ≡ cond (sound_words w && ltb (get_or w 1 0) 65535 && measurable (vector_at d 0)) 0 16
+  pub add-number : (d : List Float) (pulses : ℕ) → answer_number (added_words w d pulses) ≡ cond (sound_words w && ltb (get_or w 1 0) 65535 && measurable (vector_at d 0)) 0 16
   add-number d pulses = held_number (vector_at d 0) pulses
 
 -- ---- calls one after the other
@@ -90,7 +90,7 @@ pub record WordsHeld (t : Trip) : Type 0 where
   pub epochs : t.epochs ≤ 65535
 
 -- its words hold it
-pub words-held : (t : Trip) → WordsHeld t → held_of (words_of t) ≡ Goes t
+pub words-held : (t : Trip) → WordsHeld t → held_of (words_of t) ≡ Ok t
 unfolding held_of too_wide
 words-held t h = rw (le-ltb 65535 t.rate h.rate, le-ltb 4294967295 t.epochs (omega (arith, h.epochs)))
 
@@ -102,14 +102,14 @@ after-held : (t : Trip) (l : Leg) → WordsHeld t → WordsHeld (with_leg t l)
 unfolding with_leg added trip_left
 after-held t l h = go (sound_trip t && ltb t.epochs 65535 && measurable l.displacement) (accepted t l.displacement)
   where
-    go : (b : Bool) → (b ≡ true → Accepted t l.displacement) → WordsHeld (trip_left t (cond b (Goes (with_epoch t (millimetres_of l.displacement) l.pulses)) (Refused BadTrip)))
+    go : (b : Bool) → (b ≡ true → Accepted t l.displacement) → WordsHeld (trip_left t (cond b (Ok (with_epoch t (millimetres_of l.displacement) l.pulses)) (Err BadTrip)))
     go false f = h
     go true f = counted-held t (millimetres_of l.displacement) l.pulses h (f refl).room
 
-kept-words : (t : Trip) (s : Step) → words_after s (words_of t) ≡ words_of (trip_left t s)
+kept-words : (t : Trip) (s : Result Trip Refusal) → words_after s (words_of t) ≡ words_of (trip_left t s)
 unfolding trip_left
-kept-words t (Refused r) = refl
-kept-words t (Goes u) = refl
+kept-words t (Err r) = refl
+kept-words t (Ok u) = refl
 
 next-words : (t : Trip) (a : Addition) → WordsHeld t → words_next (words_of t) a ≡ words_of (with_leg t (leg_of a))
 unfolding words_next added_held with_leg leg_of
@@ -128,10 +128,10 @@ fold-held (l ∷ legs) t h = fold-held legs (with_leg t l) (after-held t l h)
 -- What the calls on six words answer after these epochs. The words, the report and the fuel are those of the list.
 pub record Answers (rate : ℕ) (legs : List Leg) (words : List ℕ) : Type 0 where
   pub words_are : words ≡ rate ∷ length legs ∷ carrier_millimetres legs ∷ pulses_of legs ∷ greatest_of rate legs ∷ reached_of rate legs ∷ []
-  pub report-number : report_number (reported_words words) ≡ 0
+  pub report-number : answer_number (reported_words words) ≡ 0
   pub report-is : (before : List ℕ)
       → report_after (reported_words words) before ≡ carrier_millimetres legs ∷ odometer rate (pulses_of legs) ∷ greatest_of rate legs ∷ reached_of rate legs ∷ []
-  pub fuel-number : (millilitres : ℕ) → fuel_number (fuelled_words words millilitres) ≡ cond (eqb (carrier_millimetres legs) 0) 17 0
+  pub fuel-number : (millilitres : ℕ) → answer_number (fuelled_words words millilitres) ≡ cond (eqb (carrier_millimetres legs) 0) 17 0
   pub fuel-is : (millilitres before : ℕ)
       → fuel_after (fuelled_words words millilitres) before ≡ cond (eqb (carrier_millimetres legs) 0) before (millilitres * 1000000 / carrier_millimetres legs)
 
@@ -148,11 +148,11 @@ module _ (rate : ℕ) (legs : List Leg) (h : WordsHeld (trip_of rate legs)) (s :
         fuel-is = λ millilitres before. rw (words-held (trip_of rate legs) h, s) (per (eqb (carrier_millimetres legs) 0) before (millilitres * 1000000 / carrier_millimetres legs));
       }
     where
-      number : (b : Bool) (m : ℕ) → fuel_number (cond b (Unfuelled NoDistance) (PerKilometre m)) ≡ cond b 17 0
+      number : (b : Bool) (m : ℕ) → answer_number (cond b (Err NoDistance) (Ok m)) ≡ cond b 17 0
       number true m = refl
       number false m = refl
 
-      per : (b : Bool) (before m : ℕ) → fuel_after (cond b (Unfuelled NoDistance) (PerKilometre m)) before ≡ cond b before m
+      per : (b : Bool) (before m : ℕ) → fuel_after (cond b (Err NoDistance) (Ok m)) before ≡ cond b before m
       per true before m = refl
       per false before m = refl
 
@@ -163,7 +163,7 @@ module _ (rate : ℕ) (some : 0 < rate) (fits : rate ≤ 65535) (before : List �
   unfolding trip_of
   start-held = record { rate = fits; epochs = lit≤ tt }
 
-  pub start-number : step_number (started rate) ≡ 0
+  pub start-number : answer_number (started rate) ≡ 0
   start-number = rw (start-goes rate some)
 
   pub calls-law : (calls : List Addition) → every narrow (map leg_of calls) ≡ true → Answers rate (counted_legs calls) (words_after_calls rate before calls)

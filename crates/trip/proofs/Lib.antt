@@ -5,6 +5,5 @@ pub mod BoundsLaws
 pub mod TripLaws
 pub mod ReportLaws
 pub mod TotalLaws
-pub mod WordLaws
 pub mod HeldLaws
 pub mod TripValues

@@ -1,5 +1,6 @@
 -- What users of a trip lean on: its carrier total is the sum of its epochs' millimetres, each below the exact length by less than a millimetre, and a displacement that is
 -- not finite enters no total. Assumes nothing.
+use Rattle.std.specs.Prelude.{Ok, Err}
 use mathlib.Core.Path.{◌≡◌, refl, ap, subst}
 use mathlib.Core.List.{List, [], ◌∷◌}
 use mathlib.Core.Bool.{Bool, true, false, cond, and-false, ◌&&◌, ◌||◌}
@@ -20,7 +21,6 @@ use Rattle.numeric.proofs.WholeLaws.{Greatest, whole-greatest}
 use Rattle.trip.specs.Measure.{millimetres_of, measurable}
 use Rattle.trip.specs.Trip.{Leg, carrier_millimetres, pulses_of, odometer, apart, greatest, greatest_of, report_of, trip_of, sound_trip, with_epoch, added, trip_left, with_leg, counting, narrow}
 use Rattle.trip.specs.declared.trip.Trip.{Trip}
-use Rattle.trip.specs.declared.trip.Step.TheVariants.{Refused, Goes}
 use Rattle.trip.specs.declared.trip.Report.{Report}
 use Rattle.trip.proofs.MeasureLaws.{measured, component_not_finite}
 use Rattle.trip.proofs.BoundsLaws.{Accepted, bounds, counted-sound, accepted}
@@ -68,7 +68,7 @@ module _ (t : Trip) (l : Leg) (h : (finite l.displacement.x && finite l.displace
   fails : (sound_trip t && ltb t.epochs 65535 && measurable l.displacement) ≡ false
   fails = rw (component_not_finite l.displacement h) (and-false (sound_trip t && ltb t.epochs 65535))
 
-  pub not_finite-refused : added t l.displacement l.pulses ≡ Refused BadTrip
+  pub not_finite-refused : added t l.displacement l.pulses ≡ Err BadTrip
   unfolding added
   not_finite-refused = rw fails
 
@@ -109,7 +109,7 @@ after_small : (t : Trip) (l : Leg) → Small t → narrow l ≡ true → Small (
 unfolding with_leg added trip_left narrow
 after_small t l s n = go (sound_trip t && ltb t.epochs 65535 && measurable l.displacement) (accepted t l.displacement)
   where
-    go : (b : Bool) → (b ≡ true → Accepted t l.displacement) → Small (trip_left t (cond b (Goes (with_epoch t (millimetres_of l.displacement) l.pulses)) (Refused BadTrip)))
+    go : (b : Bool) → (b ≡ true → Accepted t l.displacement) → Small (trip_left t (cond b (Ok (with_epoch t (millimetres_of l.displacement) l.pulses)) (Err BadTrip)))
     go false f = s
     go true f =
         let a = f refl in counted-small t (millimetres_of l.displacement) l.pulses s a.room (measured l.displacement a.is-measurable).short (leb-true l.pulses 65535 n)

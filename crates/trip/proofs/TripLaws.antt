@@ -1,4 +1,6 @@
 -- The trip that calls leave, one after the other from the start, is that of the list of their accepted epochs, and so is its report, for every list. Assumes nothing.
+use Rattle.std.specs.Prelude.{Result, Ok, Err}
+use Rattle.numeric.specs.declared.refusal.Refusal.{Refusal}
 use mathlib.Core.Path.{◌≡◌, refl, sym, ap, ap₂, ◌∙◌, subst}
 use mathlib.Core.List.{List, [], ◌∷◌, ◌++◌, append_assoc, append-nil}
 use mathlib.Core.Bool.{Bool, true, false, cond, ◌&&◌, ◌||◌, and-false, and-true}
@@ -22,10 +24,6 @@ use Rattle.trip.specs.Steps.{way_of}
 use Rattle.trip.specs.Trip.{Leg, carrier_millimetres, pulses_of, odometer, apart, difference_after, greatest, first_with, greatest_of, reached_of, report_of, trip_of, sound_trip, started, with_epoch, added, reported, Adds, Reports, trip_left, with_leg, measurables, counting, narrow}
 use Rattle.trip.specs.declared.trip.Trip.{Trip}
 use Rattle.trip.specs.declared.trip.Report.{Report}
-use Rattle.trip.specs.declared.trip.Step.{Step}
-use Rattle.trip.specs.declared.trip.Step.TheVariants.{Refused, Goes}
-use Rattle.trip.specs.declared.trip.Reported.{Reported}
-use Rattle.trip.specs.declared.trip.Reported.TheVariants.{Refused as Unreported, Totals}
 use Rattle.trip.proofs.MeasureLaws.{by_length, way-within-is}
 use Rattle.trip.proofs.BoundsLaws.{bounded, after-sound}
 
@@ -173,12 +171,12 @@ list_counted : (t : Trip) (l : Leg) (legs : List Leg) → t ≡ trip_of t.rate l
 list_counted t l legs h = ap (λ (u : Trip). with_epoch u (millimetres_of l.displacement) l.pulses) h ∙ sym (more t.rate legs l)
 
 list-added : (t : Trip) (l : Leg) (legs : List Leg) → t ≡ trip_of t.rate legs
-    → added t l.displacement l.pulses ≡ cond (sound_trip t && ltb (length legs) 65535 && measurable l.displacement) (Goes (trip_of t.rate (legs ++ (l ∷ [])))) (Refused BadTrip)
+    → added t l.displacement l.pulses ≡ cond (sound_trip t && ltb (length legs) 65535 && measurable l.displacement) (Ok (trip_of t.rate (legs ++ (l ∷ [])))) (Err BadTrip)
 unfolding added
 list-added t l legs h =
-    ap₂ (λ (n : ℕ) (u : Trip). cond (sound_trip t && ltb n 65535 && measurable l.displacement) (Goes u) (Refused BadTrip)) (list-epochs t legs h) (list_counted t l legs h)
+    ap₂ (λ (n : ℕ) (u : Trip). cond (sound_trip t && ltb n 65535 && measurable l.displacement) (Ok u) (Err BadTrip)) (list-epochs t legs h) (list_counted t l legs h)
 
-pub adds : (t : Trip) (l : Leg) {r : Step} → r ≡ added t l.displacement l.pulses → Adds t l r
+pub adds : (t : Trip) (l : Leg) {r : Result Trip Refusal} → r ≡ added t l.displacement l.pulses → Adds t l r
 adds t l e = record { is = e; of-list = λ legs h. e ∙ list-added t l legs h }
 
 -- the same from the way of the displacement, which alone decides
@@ -187,7 +185,7 @@ module _ (t : Trip) (d : Vec3) (pulses : ℕ) {way : ℕ} (e : way ≡ way_of (n
   within-is = rw (by_length d, e) (way-within-is d)
 
   -- more than 1,000 m
-  pub way-refused : leb way 1000000 ≡ false → Refused BadTrip ≡ added t d pulses
+  pub way-refused : leb way 1000000 ≡ false → Err BadTrip ≡ added t d pulses
   unfolding added
   way-refused h = rw (sym within-is ∙ h, and-false (sound_trip t && ltb t.epochs 65535))
 
@@ -196,11 +194,11 @@ module _ (t : Trip) (d : Vec3) (pulses : ℕ) {way : ℕ} (e : way ≡ way_of (n
     test-is = rw (sym within-is ∙ w, s-is) (sym (and-true (sound_trip t && ltb t.epochs 65535)))
 
     -- a trip that is full or not sound
-    pub trip_refused : (s && ltb t.epochs 65535) ≡ false → Refused BadTrip ≡ added t d pulses
+    pub trip_refused : (s && ltb t.epochs 65535) ≡ false → Err BadTrip ≡ added t d pulses
     unfolding added
     trip_refused h = rw (sym test-is ∙ h)
 
-    pub way-added : (s && ltb t.epochs 65535) ≡ true → Goes (with_epoch t way pulses) ≡ added t d pulses
+    pub way-added : (s && ltb t.epochs 65535) ≡ true → Ok (with_epoch t way pulses) ≡ added t d pulses
     unfolding added millimetres_of way_of
     way-added h =
         let n : le (norm d) (whole 1000) ≡ true = sym (way-within-is d) ∙ ap (λ (z : ℕ). leb z 1000000) (sym e) ∙ w in
@@ -213,11 +211,11 @@ list-totals : (t : Trip) (legs : List Leg) → t ≡ trip_of t.rate legs → tot
 unfolding trip_of report_of
 list-totals t legs h = ap (λ (u : Trip). totals u t.rate) h
 
-list-reported : (t : Trip) (legs : List Leg) → t ≡ trip_of t.rate legs → reported t ≡ cond (sound_trip t) (Totals (report_of t.rate legs)) (Unreported BadTrip)
+list-reported : (t : Trip) (legs : List Leg) → t ≡ trip_of t.rate legs → reported t ≡ cond (sound_trip t) (Ok (report_of t.rate legs)) (Err BadTrip)
 unfolding reported
-list-reported t legs h = ap (λ (p : Report). cond (sound_trip t) (Totals p) (Unreported BadTrip)) (list-totals t legs h)
+list-reported t legs h = ap (λ (p : Report). cond (sound_trip t) (Ok p) (Err BadTrip)) (list-totals t legs h)
 
-pub reports : (t : Trip) {r : Reported} → r ≡ reported t → Reports t r
+pub reports : (t : Trip) {r : Result Report Refusal} → r ≡ reported t → Reports t r
 reports t e = record { is = e; of-list = λ legs h. e ∙ list-reported t legs h }
 
 -- ---- one call
@@ -265,7 +263,7 @@ module _ (rate : ℕ) where
   unfolding trip_of carrier_millimetres pulses_of
   start-sound h = bounded _ (record { rated = h; few = lit≤ tt; carrier = lit≤ tt; pulses = lit≤ tt })
 
-  pub start-goes : 0 < rate → started rate ≡ Goes (trip_of rate [])
+  pub start-goes : 0 < rate → started rate ≡ Ok (trip_of rate [])
   unfolding started
   start-goes h = rw (lt-ltb 0 rate h)
 
@@ -281,12 +279,12 @@ fold-sound [] t s n = s
 fold-sound (l ∷ legs) t s n = let m = and_both (narrow l) (every narrow legs) n in fold-sound legs (with_leg t l) (after-sound t l s m.0) m.1
 
 -- the report of a sound trip that is a list's is the list's
-reported-list : (rate : ℕ) (legs : List Leg) → sound_trip (trip_of rate legs) ≡ true → reported (trip_of rate legs) ≡ Totals (report_of rate legs)
+reported-list : (rate : ℕ) (legs : List Leg) → sound_trip (trip_of rate legs) ≡ true → reported (trip_of rate legs) ≡ Ok (report_of rate legs)
 unfolding reported report_of trip_of
 reported-list rate legs h = rw h
 
 -- and so is the report of that trip
-pub report-law : (rate : ℕ) (legs : List Leg) → 0 < rate → every narrow legs ≡ true → reported (fold with_leg (trip_of rate []) legs) ≡ Totals (report_of rate (counting legs))
+pub report-law : (rate : ℕ) (legs : List Leg) → 0 < rate → every narrow legs ≡ true → reported (fold with_leg (trip_of rate []) legs) ≡ Ok (report_of rate (counting legs))
 report-law rate legs h n =
     let e = trip_law rate legs h n in
     ap reported e ∙ reported-list rate (counting legs) (subst (λ (t : Trip). sound_trip t ≡ true) e (fold-sound legs (trip_of rate []) (start-sound rate h) n))

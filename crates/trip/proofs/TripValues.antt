@@ -1,4 +1,5 @@
 -- Worked values of millimetres, odometer, report and fuel, and of the refusals. Assumes nothing.
+use Rattle.std.specs.Prelude.{Ok, Err}
 use Prim.Native.Nat.{ℕ}
 use mathlib.Core.Path.{◌≡◌, refl}
 use mathlib.Core.List.{List, [], ◌∷◌}
@@ -14,8 +15,6 @@ use Rattle.trip.specs.Measure.{millimetres, millimetres_of, measurable}
 use Rattle.trip.specs.Trip.{Leg, carrier_millimetres, pulses_of, odometer, apart, difference_after, greatest, first_with, greatest_of, reached_of, report_of, trip_of, sound_trip, started, with_epoch, added, fuelled, trip_left, with_leg}
 use Rattle.trip.specs.declared.trip.Trip.{Trip}
 use Rattle.trip.specs.declared.trip.Report.{Report}
-use Rattle.trip.specs.declared.trip.Step.TheVariants.{Refused}
-use Rattle.trip.specs.declared.trip.Fuel.TheVariants.{Refused as Unfuelled, PerKilometre}
 
 -- ---- millimetres: 1,000 m, the double nearest 1.0005, and the two doubles beside 1 mm, of which 0.001 is the upper
 pub kilometre : millimetres (whole 1000) ≡ 1000000
@@ -72,31 +71,31 @@ unfolding fold with_leg trip_left added sound_trip with_epoch measurable trip_of
 called = refl
 
 -- 850 ml over these 10 m
-pub fuel : fuelled (trip_of 1000 four) 850 ≡ PerKilometre 85000
+pub fuel : fuelled (trip_of 1000 four) 850 ≡ Ok 85000
 unfolding fuelled sound_trip trip_of greatest_of reached_of difference_after greatest first_with carrier_millimetres pulses_of odometer apart millimetres_of whole_times magnitude scale norm root_of add mul of_int
 fuel = refl
 
 -- ---- refusals
 
-pub no-rate : started 0 ≡ Refused BadTrip
+pub no-rate : started 0 ≡ Err BadTrip
 unfolding started
 no-rate = refl
 
 -- 17 comes after 16
-pub no_distance : fuelled (trip_of 1000 []) 850 ≡ Unfuelled NoDistance
+pub no_distance : fuelled (trip_of 1000 []) 850 ≡ Err NoDistance
 unfolding fuelled sound_trip trip_of carrier_millimetres pulses_of
 no_distance = refl
 
-pub no-rate-first : fuelled (trip_of 0 []) 850 ≡ Unfuelled BadTrip
+pub no-rate-first : fuelled (trip_of 0 []) 850 ≡ Err BadTrip
 unfolding fuelled sound_trip trip_of carrier_millimetres pulses_of
 no-rate-first = refl
 
 -- 1,000 m and a bit is too long, and a NaN is not finite
-pub too_long : added (trip_of 1000 []) (record { x = bits 0x408F_4000_0000_0001; y = whole 0; z = whole 0 }) 7 ≡ Refused BadTrip
+pub too_long : added (trip_of 1000 []) (record { x = bits 0x408F_4000_0000_0001; y = whole 0; z = whole 0 }) 7 ≡ Err BadTrip
 unfolding added sound_trip measurable trip_of carrier_millimetres pulses_of norm root_of le lt eq add mul of_int of_bits
 too_long = refl
 
-pub no_number : added (trip_of 1000 []) (record { x = whole 1; y = nan; z = whole 0 }) 7 ≡ Refused BadTrip
+pub no_number : added (trip_of 1000 []) (record { x = whole 1; y = nan; z = whole 0 }) 7 ≡ Err BadTrip
 unfolding added sound_trip measurable trip_of carrier_millimetres pulses_of norm root_of le lt eq add mul of_int
 no_number = refl
 
@@ -104,10 +103,10 @@ no_number = refl
 abbrev with : ℕ → ℕ → Trip
 with epochs carrier = record { rate = 1000; epochs = epochs; carrier = carrier; pulses = 0; greatest = 0; reached = 1 }
 
-pub full : added (with 65535 0) (record { x = whole 1; y = whole 0; z = whole 0 }) 7 ≡ Refused BadTrip
+pub full : added (with 65535 0) (record { x = whole 1; y = whole 0; z = whole 0 }) 7 ≡ Err BadTrip
 unfolding added sound_trip measurable norm root_of le lt eq add mul of_int
 full = refl
 
-pub too_far : added (with 2 2000001) (record { x = whole 1; y = whole 0; z = whole 0 }) 7 ≡ Refused BadTrip
+pub too_far : added (with 2 2000001) (record { x = whole 1; y = whole 0; z = whole 0 }) 7 ≡ Err BadTrip
 unfolding added sound_trip measurable norm root_of le lt eq add mul of_int
 too_far = refl

@@ -1,4 +1,6 @@
 -- Odometer beside carrier distance (docs/SCOPE.md, "Trip"): the report of a list of epochs, and the calls of a trip. Definitions only.
+use Rattle.std.specs.Prelude.{Result, Ok, Err}
+use Rattle.numeric.specs.declared.refusal.Refusal.{Refusal}
 use Rattle.std.specs.Prelude.{ℕ, zero, suc, ◌+◌, ◌-◌, ◌*◌, ◌/◌, max, ◌≡◌, Bool, cond, not, ◌&&◌, ◌||◌, List, [], ◌∷◌, ◌++◌, leb, ltb, eqb, length, take}
 use Rattle.lists.specs.Walk.{collect}
 use Rattle.numeric.specs.declared.vec3.Vec3.{Vec3}
@@ -6,12 +8,6 @@ use Rattle.numeric.specs.declared.refusal.Refusal.TheVariants.{BadTrip, NoDistan
 use Rattle.trip.specs.Measure.{millimetres_of, measurable}
 use Rattle.trip.specs.declared.trip.Trip.{Trip}
 use Rattle.trip.specs.declared.trip.Report.{Report}
-use Rattle.trip.specs.declared.trip.Step.{Step}
-use Rattle.trip.specs.declared.trip.Step.TheVariants.{Refused, Goes}
-use Rattle.trip.specs.declared.trip.Reported.{Reported}
-use Rattle.trip.specs.declared.trip.Reported.TheVariants.{Refused as Unreported, Totals}
-use Rattle.trip.specs.declared.trip.Fuel.{Fuel}
-use Rattle.trip.specs.declared.trip.Fuel.TheVariants.{Refused as Unfuelled, PerKilometre}
 
 -- ---- the report, from the list of epochs since the start
 
@@ -77,8 +73,8 @@ unfoldable pub sound_trip : Trip → Bool
 sound_trip t = ltb 0 t.rate && leb t.epochs 65535 && leb t.carrier (1000000 * t.epochs) && leb t.pulses (65535 * t.epochs)
 
 -- a trip just started; 16 for a pulse rate of 0
-unfoldable pub started : ℕ → Step
-started rate = cond (ltb 0 rate) (Goes (trip_of rate [])) (Refused BadTrip)
+unfoldable pub started : ℕ → Result Trip Refusal
+started rate = cond (ltb 0 rate) (Ok (trip_of rate [])) (Err BadTrip)
 
 -- one epoch of so many millimetres and pulses more: the first is the first to reach its difference, a later one where it is above all before it
 unfoldable pub with_epoch : Trip → ℕ → ℕ → Trip
@@ -97,40 +93,40 @@ with_epoch t millimetres pulses =
     }
 
 -- one epoch more; 16 for a trip that is not sound, a full one, and a displacement not finite or longer than 1,000 m
-unfoldable pub added : Trip → Vec3 → ℕ → Step
-added t d pulses = cond (sound_trip t && ltb t.epochs 65535 && measurable d) (Goes (with_epoch t (millimetres_of d) pulses)) (Refused BadTrip)
+unfoldable pub added : Trip → Vec3 → ℕ → Result Trip Refusal
+added t d pulses = cond (sound_trip t && ltb t.epochs 65535 && measurable d) (Ok (with_epoch t (millimetres_of d) pulses)) (Err BadTrip)
 
-unfoldable pub reported : Trip → Reported
+unfoldable pub reported : Trip → Result Report Refusal
 reported t =
     cond (sound_trip t)
-    (Totals (record { carrier = t.carrier; odometer = odometer t.rate t.pulses; greatest = t.greatest; reached = t.reached }))
-    (Unreported BadTrip)
+    (Ok (record { carrier = t.carrier; odometer = odometer t.rate t.pulses; greatest = t.greatest; reached = t.reached }))
+    (Err BadTrip)
 
 -- fuel per kilometre: millilitres times 1,000,000 divided by carrier millimetres, rounded down; 17, after 16, at zero carrier distance
-unfoldable pub fuelled : Trip → ℕ → Fuel
+unfoldable pub fuelled : Trip → ℕ → Result ℕ Refusal
 fuelled t millilitres =
-    cond (not (sound_trip t)) (Unfuelled BadTrip)
-    (cond (eqb t.carrier 0) (Unfuelled NoDistance)
-    (PerKilometre (millilitres * 1000000 / t.carrier)))
+    cond (not (sound_trip t)) (Err BadTrip)
+    (cond (eqb t.carrier 0) (Err NoDistance)
+    (Ok (millilitres * 1000000 / t.carrier)))
 
 -- ---- what the calls promise: the definition by the trip handed in and, wherever that is the trip of a list of epochs, the definition by the list
 
 -- an accepted epoch comes at the end of the list
-pub record Adds (t : Trip) (l : Leg) (r : Step) : Type 0 where
+pub record Adds (t : Trip) (l : Leg) (r : Result Trip Refusal) : Type 0 where
   pub is : r ≡ added t l.displacement l.pulses
   pub of-list : (legs : List Leg) → t ≡ trip_of t.rate legs
-      → r ≡ cond (sound_trip t && ltb (length legs) 65535 && measurable l.displacement) (Goes (trip_of t.rate (legs ++ (l ∷ [])))) (Refused BadTrip)
+      → r ≡ cond (sound_trip t && ltb (length legs) 65535 && measurable l.displacement) (Ok (trip_of t.rate (legs ++ (l ∷ [])))) (Err BadTrip)
 
-pub record Reports (t : Trip) (r : Reported) : Type 0 where
+pub record Reports (t : Trip) (r : Result Report Refusal) : Type 0 where
   pub is : r ≡ reported t
-  pub of-list : (legs : List Leg) → t ≡ trip_of t.rate legs → r ≡ cond (sound_trip t) (Totals (report_of t.rate legs)) (Unreported BadTrip)
+  pub of-list : (legs : List Leg) → t ≡ trip_of t.rate legs → r ≡ cond (sound_trip t) (Ok (report_of t.rate legs)) (Err BadTrip)
 
 -- ---- calls one after the other
 
 -- the trip that a call leaves: a refusal leaves it unchanged
-unfoldable pub trip_left : Trip → Step → Trip
-trip_left t (Refused r) = t
-trip_left t (Goes u) = u
+unfoldable pub trip_left : Trip → Result Trip Refusal → Trip
+trip_left t (Err r) = t
+trip_left t (Ok u) = u
 
 unfoldable pub with_leg : Trip → Leg → Trip
 with_leg t l = trip_left t (added t l.displacement l.pulses)

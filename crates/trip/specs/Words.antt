@@ -1,17 +1,17 @@
 -- A trip as six words (docs/SCOPE.md, "Trip"): pulses per kilometre, epochs, carrier millimetres, pulses, greatest difference, its epoch. What the calls on them
 -- answer, and what lent words hold afterwards. Definitions only.
+use Rattle.numeric.specs.Refusal.{answer_number}
+use Rattle.std.specs.Prelude.{Result, Ok, Err}
+use Rattle.numeric.specs.declared.refusal.Refusal.{Refusal}
+use Rattle.trip.specs.declared.trip.Report.{Report}
 use Rattle.std.specs.Prelude.{◌≡◌, ℕ, ◌*◌, Bool, cond, ◌&&◌, ◌||◌, List, [], ◌∷◌, map, leb, ltb, get_or, Float}
 use Rattle.lists.specs.Memory.{before, after, Memory, LentNumbers}
 use Rattle.lists.specs.Walk.{fold}
-use Rattle.numeric.specs.Refusal.{number_of}
 use Rattle.numeric.specs.declared.refusal.Refusal.TheVariants.{BadTrip}
 use Rattle.numeric.specs.Vec3.{vector_at}
 use Rattle.numeric.specs.declared.vec3.Vec3.{Vec3}
 use Rattle.trip.specs.Trip.{Leg, started, added, reported, fuelled, counting}
 use Rattle.trip.specs.declared.trip.Trip.{Trip}
-use Rattle.trip.specs.declared.trip.Step.{Step}
-use Rattle.trip.specs.declared.trip.Reported.{Reported}
-use Rattle.trip.specs.declared.trip.Fuel.{Fuel}
 
 -- ---- words and trips
 
@@ -23,72 +23,63 @@ abbrev pub trip_from : List ℕ → Trip
 trip_from w = record { rate = get_or w 0 0; epochs = get_or w 1 0; carrier = get_or w 2 0; pulses = get_or w 3 0; greatest = get_or w 4 0; reached = get_or w 5 0 }
 
 -- the trip that the words hold; 16 where one is too wide
-unfoldable pub held_of : List ℕ → Step
-held_of w = cond (too_wide w) (Step.Refused BadTrip) (Step.Goes (trip_from w))
+unfoldable pub held_of : List ℕ → Result Trip Refusal
+held_of w = cond (too_wide w) (Err BadTrip) (Ok (trip_from w))
 
 abbrev pub words_of : Trip → List ℕ
 words_of t = t.rate ∷ t.epochs ∷ t.carrier ∷ t.pulses ∷ t.greatest ∷ t.reached ∷ []
 
 -- ---- the calls on the trip that words hold
 
-unfoldable pub added_held : Step → Vec3 → ℕ → Step
-added_held (Step.Refused r) d pulses = Step.Refused r
-added_held (Step.Goes t) d pulses = added t d pulses
+unfoldable pub added_held : Result Trip Refusal → Vec3 → ℕ → Result Trip Refusal
+added_held (Err r) d pulses = Err r
+added_held (Ok t) d pulses = added t d pulses
 
-abbrev pub added_words : List ℕ → List Float → ℕ → Step
+abbrev pub added_words : List ℕ → List Float → ℕ → Result Trip Refusal
 added_words w d pulses = added_held (held_of w) (vector_at d 0) pulses
 
-unfoldable pub reported_held : Step → Reported
-reported_held (Step.Refused r) = Reported.Refused r
-reported_held (Step.Goes t) = reported t
+unfoldable pub reported_held : Result Trip Refusal → Result Report Refusal
+reported_held (Err r) = Err r
+reported_held (Ok t) = reported t
 
-abbrev pub reported_words : List ℕ → Reported
+abbrev pub reported_words : List ℕ → Result Report Refusal
 reported_words w = reported_held (held_of w)
 
-unfoldable pub fuelled_held : Step → ℕ → Fuel
-fuelled_held (Step.Refused r) millilitres = Fuel.Refused r
-fuelled_held (Step.Goes t) millilitres = fuelled t millilitres
+unfoldable pub fuelled_held : Result Trip Refusal → ℕ → Result ℕ Refusal
+fuelled_held (Err r) millilitres = Err r
+fuelled_held (Ok t) millilitres = fuelled t millilitres
 
-abbrev pub fuelled_words : List ℕ → ℕ → Fuel
+abbrev pub fuelled_words : List ℕ → ℕ → Result ℕ Refusal
 fuelled_words w millilitres = fuelled_held (held_of w) millilitres
 
 -- ---- the number, and what the lent words hold afterwards: a refusal leaves them unchanged
 
-abbrev pub step_number : Step → ℕ
-step_number (Step.Refused r) = number_of r
-step_number (Step.Goes t) = 0
+abbrev pub words_after : Result Trip Refusal → List ℕ → List ℕ
+words_after (Err r) w = w
+words_after (Ok t) w = words_of t
 
-abbrev pub words_after : Step → List ℕ → List ℕ
-words_after (Step.Refused r) w = w
-words_after (Step.Goes t) w = words_of t
+abbrev pub report_words : Report → List ℕ
+report_words p = p.carrier ∷ p.odometer ∷ p.greatest ∷ p.reached ∷ []
 
-abbrev pub report_number : Reported → ℕ
-report_number (Reported.Refused r) = number_of r
-report_number (Reported.Totals p) = 0
+abbrev pub report_after : Result Report Refusal → List ℕ → List ℕ
+report_after (Err r) w = w
+report_after (Ok p) w = report_words p
 
-abbrev pub report_after : Reported → List ℕ → List ℕ
-report_after (Reported.Refused r) w = w
-report_after (Reported.Totals p) w = p.carrier ∷ p.odometer ∷ p.greatest ∷ p.reached ∷ []
-
-abbrev pub fuel_number : Fuel → ℕ
-fuel_number (Fuel.Refused r) = number_of r
-fuel_number (Fuel.PerKilometre m) = 0
-
-abbrev pub fuel_after : Fuel → ℕ → ℕ
-fuel_after (Fuel.Refused r) n = n
-fuel_after (Fuel.PerKilometre m) n = m
+abbrev pub fuel_after : Result ℕ Refusal → ℕ → ℕ
+fuel_after (Err r) n = n
+fuel_after (Ok m) n = m
 
 -- what calls on lent words promise
-pub record TripAnswers (s : Step) (number : ℕ) (trip : LentNumbers) : Type 0 where
-  pub number_is : number ≡ step_number s
+pub record TripAnswers (s : Result Trip Refusal) (number : ℕ) (trip : LentNumbers) : Type 0 where
+  pub number_is : number ≡ answer_number s
   pub words_are : after trip ≡ words_after s (before trip)
 
-pub record ReportAnswers (q : Reported) (number : ℕ) (report : LentNumbers) : Type 0 where
-  pub number_is : number ≡ report_number q
+pub record ReportAnswers (q : Result Report Refusal) (number : ℕ) (report : LentNumbers) : Type 0 where
+  pub number_is : number ≡ answer_number q
   pub words_are : after report ≡ report_after q (before report)
 
-pub record FuelAnswers (f : Fuel) (number : ℕ) (per-km : Memory ℕ) : Type 0 where
-  pub number_is : number ≡ fuel_number f
+pub record FuelAnswers (f : Result ℕ Refusal) (number : ℕ) (per-km : Memory ℕ) : Type 0 where
+  pub number_is : number ≡ answer_number f
   pub word-is : after per-km ≡ fuel_after f (before per-km)
 
 -- ---- 16, of six words handed in

@@ -1,5 +1,5 @@
 // How far a displacement goes, in whole millimetres.
-ghost use Rattle.std.specs.Prelude.{◌≡◌, true, ◌≤◌, ◌<◌, ◌*◌, ◌/◌, ◌^◌};
+ghost use Rattle.std.specs.Prelude.{ℕ, Some, ◌≡◌, true, ◌≤◌, ◌<◌, ◌*◌, ◌/◌, ◌^◌};
 ghost use Rattle.std.specs.Float.Ieee.{le};
 ghost use Rattle.exact.specs.Float.{+0, whole, bits};
 ghost use Rattle.root.specs.Root.{root_of};
@@ -53,21 +53,21 @@ fn is_certain(b: u64, a: u64) -> bool
     (square <= n) & (n <= square + 2 * a) & (a * 1000 % 65536 < 64536)
 }
 
-// Returns the way of the length whose square is given where it is seen without the root, and 2 ^ 64 - 1 where it is not. It and `by_root` are short enough that a
-// compiler writes them out where they are called, which is once on the path of each entry point.
-fn seen(square: f64) -> u64
-    ensures { result < 0xFFFF_FFFF_FFFF_FFFF → result ≡ way_of (root_of square) }
+// Returns the way of the length whose square is given where it is seen without the root. It and `by_root` are short enough that a compiler writes them out where
+// they are called, which is once on the path of each entry point.
+fn seen(square: f64) -> Option<u64>
+    ensures { (way : ℕ) → result ≡ Some way → way ≡ way_of (root_of square) }
 {
     if 9.5367431640625e-7 < square {
         if square < 1000000.0 {
             let b = f64::to_bits(square);
             let a = guess(b);
             if is_certain(b, a) {
-                return a * 1000 / 65536;
+                return Some(a * 1000 / 65536);
             }
         }
     }
-    0xFFFF_FFFF_FFFF_FFFF
+    None
 }
 
 // Returns it by the root: the whole millimetres of the length, or 1,000,001 above 1,000 m.
@@ -85,21 +85,15 @@ pub(crate) fn by_root(square: f64) -> u64
 pub fn way_of_square(square: f64) -> u64
     ensures { result ≡ way_of (root_of square) }
 {
-    let way = seen(square);
-    if way < 0xFFFF_FFFF_FFFF_FFFF {
-        return way;
+    match seen(square) {
+        Some(way) => way,
+        None => by_root(square),
     }
-    by_root(square)
 }
 
 // Returns the way of a displacement.
 pub(crate) fn way_of(d: Vec3) -> u64
     ensures { result ≡ way_of (norm d) }
 {
-    let square = d.x * d.x + d.y * d.y + d.z * d.z;
-    let way = seen(square);
-    if way < 0xFFFF_FFFF_FFFF_FFFF {
-        return way;
-    }
-    by_root(square)
+    way_of_square(d.x * d.x + d.y * d.y + d.z * d.z)
 }

@@ -1,5 +1,10 @@
 -- A trip with settings on lent memory, over a list of calls: the words, the settings in force and the report are those of the displacements, each worked out under
 -- the settings in force. Assumes nothing.
+use Rattle.numeric.specs.Refusal.{answer_number}
+use Rattle.std.specs.Prelude.{Result, Ok, Err}
+use Rattle.numeric.specs.declared.refusal.Refusal.{Refusal}
+use Rattle.trip_settings.specs.declared.drive.Drive.{Drive}
+use Rattle.trip_settings.specs.declared.drive.Travelled.{Travelled}
 use mathlib.Core.Path.{◌≡◌, refl, sym, ap, subst, ◌∙◌}
 use mathlib.Core.Bool.{Bool, true, false, cond, ◌&&◌}
 use mathlib.Core.List.{List, [], ◌∷◌, ◌++◌, map, append-nil}
@@ -20,21 +25,17 @@ use Rattle.records.specs.Carriers.{epoch_fits}
 use Rattle.tdcp.specs.Valid.{settings_pass}
 use Rattle.tdcp.specs.Displacement.{displacement_of}
 use Rattle.tdcp.specs.declared.displacement.Settings.{Settings}
-use Rattle.tdcp.specs.declared.displacement.Displacement.TheVariants.{Refused as Still}
 use Rattle.tdcp_columns.specs.Displacement.{columns_displaced, displacement_settings}
 use Rattle.trip.specs.Trip.{trip_of, sound_trip, started, with_leg, counting}
 use Rattle.trip.specs.Words.{held_of, words_of}
 use Rattle.trip.specs.declared.trip.Trip.{Trip}
-use Rattle.trip.specs.declared.trip.Step.{Step}
 use Rattle.trip.proofs.TripLaws.{start-sound, trip_law, fold-sound}
 use Rattle.trip.proofs.HeldLaws.{WordsHeld, words-held, fold-held, start-held, Answers, list-answers}
 use Rattle.trip_settings.specs.Drive as drive
 use Rattle.trip_settings.specs.Drive.{under_new, driven_by, tested, begun_of, travel_by}
 use Rattle.trip_settings.specs.Events.{TripEvent, epoch, change, move_input, changed_to, in_force, legs_of, legs_under, EachAccepted, narrow_event}
-use Rattle.trip_settings.specs.Lent.{settings_floats, DrivingAnswers, BegunAnswers, TravelAnswers, in_force_after, rounds_after, travel_number, trip_after, driving_number}
+use Rattle.trip_settings.specs.Lent.{settings_floats, DrivingAnswers, BegunAnswers, TravelAnswers, in_force_after, rounds_after, trip_after}
 use Rattle.trip_settings.specs.Calls.{TripMemory, settings_in, Ride, TripCall, travel_call, settings_call, ride_lent, travel_in, driving_in, call_number, memory_after, move_of, call_events, lendable}
-use Rattle.trip_settings.specs.declared.drive.Driving.{Driving}
-use Rattle.trip_settings.specs.declared.drive.Travel.{Travel}
 use Rattle.trip_settings.proofs.EventLaws.{move-after, fold-append, legs_narrow, legs_split, each-accepted, begun-goes}
 
 -- that of a trip and its settings
@@ -83,23 +84,23 @@ travel_settings s r pulses true = refl
 travel_settings s r pulses false = refl
 
 module _ (t : Trip) (s : Settings) (held : WordsHeld t) (sound : sound_trip t ≡ true) (read : Legible s) where
-  words-after : (a : Travel) → trip_after a (words_of t) ≡ words_of (drive.trip_after t a)
-  words-after (Travel.Refused r) = refl
-  words-after (Travel.Goes w) = refl
+  words-after : (a : Result Travelled Refusal) → trip_after a (words_of t) ≡ words_of (drive.trip_after t a)
+  words-after (Err r) = refl
+  words-after (Ok w) = refl
 
   -- what a displacement leaves of the words is what its event leaves of the trip
   travel_words : (r : Ride) (pulses : ℕ) (b : Bool)
-      → trip_after (travel_by (Step.Goes t) pulses (cond b (displacement_of (move_input s (move_of r))) (Still TooMany))) (words_of t)
+      → trip_after (travel_by (Ok t) pulses (cond b (displacement_of (move_input s (move_of r))) (Err TooMany))) (words_of t)
       ≡ words_of (fold with_leg t (legs_under s (cond b (epoch (move_of r) pulses ∷ []) [])))
   unfolding travel_by legs_under fold
   travel_words r pulses false = refl
   travel_words r pulses true =
       let a = displacement_of (move_input s (move_of r)) in
-      rw (append-nil (legs_of pulses a)) (words-after (travel_by (Step.Goes t) pulses a) ∙ ap words_of (move-after t pulses a))
+      rw (append-nil (legs_of pulses a)) (words-after (travel_by (Ok t) pulses a) ∙ ap words_of (move-after t pulses a))
 
   -- new settings are taken where 3 lets them pass
   settings_memory : (r : Settings) (b : Bool)
-      → (let d = cond b (driven_by r (Step.Goes t)) (Driving.Refused SettingOutOfRange) in
+      → (let d = cond b (driven_by r (Ok t)) (Err SettingOutOfRange) in
       record { words = words_of t; patterns = in_force_after d (map pattern_of (settings_floats s)); rounds = rounds_after d s.rounds }) ≡ memory_of t (cond b r s)
   unfolding memory_of
   settings_memory r true = refl
@@ -170,12 +171,12 @@ calls-from (c ∷ calls) t s h k l n =
 
 -- ---- a trip begun
 
-begun-accepted : (s : Settings) (rate : ℕ) → 0 ≡ driving_number (begun_of s rate) → (settings_pass s ≡ true) × (0 < rate)
+begun-accepted : (s : Settings) (rate : ℕ) → 0 ≡ answer_number (begun_of s rate) → (settings_pass s ≡ true) × (0 < rate)
 unfolding under_new started
 begun-accepted s rate e = go (settings_pass s) refl (ltb 0 rate) refl e
   where
     go : (p : Bool) → settings_pass s ≡ p → (q : Bool) → ltb 0 rate ≡ q
-        → 0 ≡ driving_number (cond p (driven_by s (cond q (Step.Goes (trip_of rate [])) (Step.Refused BadTrip))) (Driving.Refused SettingOutOfRange))
+        → 0 ≡ answer_number (cond p (driven_by s (cond q (Ok (trip_of rate [])) (Err BadTrip))) (Err SettingOutOfRange))
         → (settings_pass s ≡ true) × (0 < rate)
     go true a true b e = (a, ltb-true _ _ b)
     go true a false b e = absurd (omega (arith, e))
@@ -232,9 +233,9 @@ drive_calls f rounds rate {trip₀} {trip} {force₀} {force} {rounds₀} {n} fi
 
 -- ---- a refused call
 
-travel_kept : (a : Travel) (w : List ℕ) → 0 < travel_number a → trip_after a w ≡ w
-travel_kept (Travel.Refused r) w h = refl
-travel_kept (Travel.Goes v) w h = absurd (omega arith)
+travel_kept : (a : Result Travelled Refusal) (w : List ℕ) → 0 < answer_number a → trip_after a w ≡ w
+travel_kept (Err r) w h = refl
+travel_kept (Ok v) w h = absurd (omega arith)
 
 -- leaves the memory as it was
 pub refused-leaves : (m : TripMemory) (c : TripCall) → 0 < call_number m c → memory_after m c ≡ m
@@ -242,9 +243,9 @@ unfolding memory_after call_number
 refused-leaves m (travel_call r pulses) h = rw (travel_kept (travel_in m r pulses) m.words h)
 refused-leaves m (settings_call s rounds) h = go (driving_in m s rounds) h
   where
-    go : (d : Driving) → 0 < driving_number d → record { words = m.words; patterns = in_force_after d m.patterns; rounds = rounds_after d m.rounds } ≡ m
-    go (Driving.Refused r) h = refl
-    go (Driving.Goes v) h = absurd (omega arith)
+    go : (d : Result Drive Refusal) → 0 < answer_number d → record { words = m.words; patterns = in_force_after d m.patterns; rounds = rounds_after d m.rounds } ≡ m
+    go (Err r) h = refl
+    go (Ok v) h = absurd (omega arith)
 
 -- and no trace: the calls leave what they leave without it
 pub refused-no_trace : (m : TripMemory) (before later : List TripCall) (c : TripCall) → 0 < call_number (fold memory_after m before) c

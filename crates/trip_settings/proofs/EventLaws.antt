@@ -1,4 +1,5 @@
 -- A trip over a list of events, new settings among them: its trip and report are those of the displacements, each worked out under the settings in force. Assumes nothing.
+use Rattle.std.specs.Prelude.{Result, Ok, Err}
 use mathlib.Core.Path.{◌≡◌, refl, ap, ◌∙◌}
 use mathlib.Core.List.{List, [], ◌∷◌, ◌++◌, append_assoc}
 use mathlib.Core.Bool.{Bool, true, false, cond}
@@ -12,33 +13,28 @@ use Rattle.tdcp.specs.Valid.{settings_pass}
 use Rattle.tdcp.specs.Displacement.{displacement_of}
 use Rattle.tdcp.specs.declared.displacement.Delta.{Delta}
 use Rattle.tdcp.specs.declared.displacement.Settings.{Settings}
-use Rattle.tdcp.specs.declared.displacement.Displacement.{Displacement}
-use Rattle.tdcp.specs.declared.displacement.Displacement.TheVariants.{Refused as Still, Moved}
 use Rattle.tdcp.proofs.DisplacementSound.{displacement-accepted}
 use Rattle.trip.specs.Trip.{Leg, report_of, trip_of, sound_trip, added, reported, trip_left, with_leg, counting, narrow}
 use Rattle.trip.specs.Words.{added_held}
 use Rattle.trip.specs.declared.trip.Trip.{Trip}
-use Rattle.trip.specs.declared.trip.Step.{Step}
-use Rattle.trip.specs.declared.trip.Reported.TheVariants.{Totals}
 use Rattle.trip.proofs.BoundsLaws.{after-sound}
 use Rattle.trip.proofs.TripLaws.{start-sound, start-goes, trip_law, report-law}
 use Rattle.trip_settings.specs.Drive.{under_new, tested, begun_of, changed_of, travel_with, travel_by, travelled_of, drive_after, trip_after}
 use Rattle.trip_settings.specs.Events.{Move, TripEvent, epoch, change, move_input, drive_next, changed_to, in_force, legs_of, legs_under, EachAccepted, narrow_event}
 use Rattle.trip_settings.specs.declared.drive.Drive.{Drive}
-use Rattle.trip_settings.specs.declared.drive.Driving.TheVariants as Driving
 
 -- ---- one displacement
 
-with-after : (t : Trip) (d : Delta) (s : Step) → trip_after t (travel_with d s) ≡ trip_left t s
+with-after : (t : Trip) (d : Delta) (s : Result Trip Refusal) → trip_after t (travel_with d s) ≡ trip_left t s
 unfolding trip_left
-with-after t d (Step.Refused r) = refl
-with-after t d (Step.Goes u) = refl
+with-after t d (Err r) = refl
+with-after t d (Ok u) = refl
 
 -- it leaves the trip that its epochs leave
-pub move-after : (t : Trip) (pulses : ℕ) (a : Displacement) → trip_after t (travel_by (Step.Goes t) pulses a) ≡ fold with_leg t (legs_of pulses a)
+pub move-after : (t : Trip) (pulses : ℕ) (a : Result Delta Refusal) → trip_after t (travel_by (Ok t) pulses a) ≡ fold with_leg t (legs_of pulses a)
 unfolding travel_by added_held legs_of fold with_leg
-move-after t pulses (Still r) = refl
-move-after t pulses (Moved d) = with-after t d (added t d.delta pulses)
+move-after t pulses (Err r) = refl
+move-after t pulses (Ok d) = with-after t d (added t d.delta pulses)
 
 pub fold-append : {S A : Type 0} (g : S → A → S) (s : S) (xs ys : List A) → fold g s (xs ++ ys) ≡ fold g (fold g s xs) ys
 unfolding fold
@@ -46,15 +42,15 @@ fold-append g s [] ys = refl
 fold-append g s (x ∷ xs) ys = fold-append g (g s x) xs ys
 
 -- it keeps the trip sound
-move-sound : (t : Trip) (pulses : ℕ) (a : Displacement) → sound_trip t ≡ true → leb pulses 65535 ≡ true → sound_trip (fold with_leg t (legs_of pulses a)) ≡ true
+move-sound : (t : Trip) (pulses : ℕ) (a : Result Delta Refusal) → sound_trip t ≡ true → leb pulses 65535 ≡ true → sound_trip (fold with_leg t (legs_of pulses a)) ≡ true
 unfolding legs_of fold narrow
-move-sound t pulses (Still r) s n = s
-move-sound t pulses (Moved d) s n = after-sound t (record { displacement = d.delta; pulses = pulses }) s n
+move-sound t pulses (Err r) s n = s
+move-sound t pulses (Ok d) s n = after-sound t (record { displacement = d.delta; pulses = pulses }) s n
 
-move-narrow : (pulses : ℕ) (a : Displacement) (legs : List Leg) → leb pulses 65535 ≡ true → every narrow legs ≡ true → every narrow (legs_of pulses a ++ legs) ≡ true
+move-narrow : (pulses : ℕ) (a : Result Delta Refusal) (legs : List Leg) → leb pulses 65535 ≡ true → every narrow legs ≡ true → every narrow (legs_of pulses a ++ legs) ≡ true
 unfolding legs_of every narrow
-move-narrow pulses (Still r) legs n h = h
-move-narrow pulses (Moved d) legs n h = rw (n, h)
+move-narrow pulses (Err r) legs n h = h
+move-narrow pulses (Ok d) legs n h = rw (n, h)
 
 -- ---- a change
 
@@ -63,7 +59,7 @@ change-taken : (t : Trip) (s r : Settings) → sound_trip t ≡ true → drive_a
 unfolding under_new tested
 change-taken t s r h = rw h (go (settings_pass r))
   where
-    go : (b : Bool) → drive_after (record { trip = t; settings = s }) (cond b (Driving.Goes (record { trip = t; settings = r })) (Driving.Refused SettingOutOfRange)) ≡ record { trip = t; settings = cond b r s }
+    go : (b : Bool) → drive_after (record { trip = t; settings = s }) (cond b (Ok (record { trip = t; settings = r })) (Err SettingOutOfRange)) ≡ record { trip = t; settings = cond b r s }
     go true = refl
     go false = refl
 
@@ -73,7 +69,7 @@ unfolding drive_next under_new
 change-refused v r h = rw h
 
 -- a refused displacement leaves the trip, its epoch and its pulses uncounted
-pub move-refused : (v : Drive) (m : Move) (pulses : ℕ) (r : Refusal) → displacement_of (move_input v.settings m) ≡ Still r → drive_next v (epoch m pulses) ≡ v
+pub move-refused : (v : Drive) (m : Move) (pulses : ℕ) (r : Refusal) → displacement_of (move_input v.settings m) ≡ Err r → drive_next v (epoch m pulses) ≡ v
 unfolding drive_next travelled_of travel_by
 move-refused v m pulses r h = rw h
 
@@ -100,7 +96,7 @@ legs_narrow (epoch m pulses ∷ es) s n =
 legs_narrow (change r ∷ es) s n = legs_narrow es (changed_to s r) n
 
 -- a trip begins where its settings and its rate pass
-pub begun-goes : (s : Settings) (rate : ℕ) → settings_pass s ≡ true → 0 < rate → begun_of s rate ≡ Driving.Goes (record { trip = trip_of rate []; settings = s })
+pub begun-goes : (s : Settings) (rate : ℕ) → settings_pass s ≡ true → 0 < rate → begun_of s rate ≡ Ok (record { trip = trip_of rate []; settings = s })
 unfolding under_new
 begun-goes s rate p h = rw (p, start-goes rate h)
 
@@ -113,7 +109,7 @@ events-law rate s es h n =
 
 -- and so is the report
 pub events-report : (rate : ℕ) (s : Settings) (es : List TripEvent) → 0 < rate → every narrow_event es ≡ true
-    → reported (fold drive_next (record { trip = trip_of rate []; settings = s }) es).trip ≡ Totals (report_of rate (counting (legs_under s es)))
+    → reported (fold drive_next (record { trip = trip_of rate []; settings = s }) es).trip ≡ Ok (report_of rate (counting (legs_under s es)))
 events-report rate s es h n =
     ap (λ (v : Drive). reported v.trip) (events-from es (trip_of rate []) s (start-sound rate h) n)
     ∙ report-law rate (legs_under s es) h (legs_narrow es s n)

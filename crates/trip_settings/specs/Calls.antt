@@ -1,4 +1,9 @@
 -- A trip with settings on lent memory, call by call: what the caller holds, what a call leaves of it, and which events the calls are. Definitions only.
+use Rattle.numeric.specs.Refusal.{answer_number}
+use Rattle.std.specs.Prelude.{Result}
+use Rattle.numeric.specs.declared.refusal.Refusal.{Refusal}
+use Rattle.trip_settings.specs.declared.drive.Drive.{Drive}
+use Rattle.trip_settings.specs.declared.drive.Travelled.{Travelled}
 use Rattle.std.specs.Prelude.{ℕ, Bool, cond, ◌&&◌, List, [], ◌∷◌, map, leb, Float}
 use Rattle.std.specs.Float.{binary64}
 use Rattle.std.specs.Float.Ieee.{fits}
@@ -13,9 +18,7 @@ use Rattle.tdcp_columns.specs.Displacement.{Lent, lent, columns_displaced, displ
 use Rattle.trip.specs.Words.{held_of}
 use Rattle.trip_settings.specs.Drive.{under_new, tested}
 use Rattle.trip_settings.specs.Events.{Move, TripEvent, epoch, change}
-use Rattle.trip_settings.specs.Lent.{driving_number, in_force_after, rounds_after, travelled_by, travel_number, trip_after}
-use Rattle.trip_settings.specs.declared.drive.Driving.{Driving}
-use Rattle.trip_settings.specs.declared.drive.Travel.{Travel}
+use Rattle.trip_settings.specs.Lent.{in_force_after, rounds_after, travelled_by, trip_after}
 
 -- ---- what a caller holds
 
@@ -50,15 +53,15 @@ abbrev pub ride_lent : Settings → Ride → Lent
 ride_lent s r = lent r.previous r.previous-count r.current r.current-count (Seconds r.dt) (vector_at r.receiver 0) s General
 
 -- the answers that the two contracts cite
-abbrev pub travel_in : TripMemory → Ride → ℕ → Travel
+abbrev pub travel_in : TripMemory → Ride → ℕ → Result Travelled Refusal
 travel_in m r pulses = travelled_by (columns_displaced (ride_lent (settings_in m) r)) pulses m.words
 
-abbrev pub driving_in : TripMemory → List Float → ℕ → Driving
+abbrev pub driving_in : TripMemory → List Float → ℕ → Result Drive Refusal
 driving_in m s rounds = under_new (displacement_settings s rounds) (tested (held_of m.words))
 
 unfoldable pub call_number : TripMemory → TripCall → ℕ
-call_number m (travel_call r pulses) = travel_number (travel_in m r pulses)
-call_number m (settings_call s rounds) = driving_number (driving_in m s rounds)
+call_number m (travel_call r pulses) = answer_number (travel_in m r pulses)
+call_number m (settings_call s rounds) = answer_number (driving_in m s rounds)
 
 -- what the call leaves: a displacement only reads the settings, and new settings only read the words
 unfoldable pub memory_after : TripMemory → TripCall → TripMemory

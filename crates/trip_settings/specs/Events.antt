@@ -1,4 +1,6 @@
 -- New settings during a trip (docs/SCOPE.md, "Settings during a trip"): the trip of a list of events, each displacement worked out under the settings in force. Definitions only.
+use Rattle.std.specs.Prelude.{Result, Ok, Err}
+use Rattle.numeric.specs.declared.refusal.Refusal.{Refusal}
 use Rattle.std.specs.Prelude.{ℕ, ◌≡◌, Bool, true, cond, List, [], ◌∷◌, ◌++◌, leb, Float}
 use Rattle.numeric.specs.declared.vec3.Vec3.{Vec3}
 use Rattle.records.specs.declared.record.Epoch.{Epoch}
@@ -6,8 +8,6 @@ use Rattle.tdcp.specs.Valid.{settings_pass}
 use Rattle.tdcp.specs.Displacement.{Input, general, displacement_of, Accepted}
 use Rattle.tdcp.specs.declared.displacement.Delta.{Delta}
 use Rattle.tdcp.specs.declared.displacement.Settings.{Settings}
-use Rattle.tdcp.specs.declared.displacement.Displacement.{Displacement}
-use Rattle.tdcp.specs.declared.displacement.Displacement.TheVariants.{Refused, Moved}
 use Rattle.trip.specs.Trip.{Leg}
 use Rattle.trip_settings.specs.Drive.{changed_of, travelled_of, drive_after, trip_after}
 use Rattle.trip_settings.specs.declared.drive.Drive.{Drive}
@@ -47,9 +47,9 @@ in_force s (epoch m pulses ∷ es) = in_force s es
 in_force s (change r ∷ es) = in_force (changed_to s r) es
 
 -- what a displacement adds to the list of epochs: a refused one leaves that epoch and its pulses uncounted
-unfoldable pub legs_of : ℕ → Displacement → List Leg
-legs_of pulses (Refused r) = []
-legs_of pulses (Moved d) = record { displacement = d.delta; pulses = pulses } ∷ []
+unfoldable pub legs_of : ℕ → Result Delta Refusal → List Leg
+legs_of pulses (Err r) = []
+legs_of pulses (Ok d) = record { displacement = d.delta; pulses = pulses } ∷ []
 
 -- the displacements, each worked out under the settings in force, with their pulses
 unfoldable pub legs_under : Settings → List TripEvent → List Leg
@@ -60,7 +60,7 @@ legs_under s (change r ∷ es) = legs_under (changed_to s r) es
 -- each accepted displacement has what every accepted one has with its own settings, demand 3 of every round included
 unfoldable pub EachAccepted : Settings → List TripEvent → Type 0
 EachAccepted s [] = Unit
-EachAccepted s (epoch m pulses ∷ es) = ((d : Delta) → displacement_of (move_input s m) ≡ Moved d → Accepted (move_input s m) d) × EachAccepted s es
+EachAccepted s (epoch m pulses ∷ es) = ((d : Delta) → displacement_of (move_input s m) ≡ Ok d → Accepted (move_input s m) d) × EachAccepted s es
 EachAccepted s (change r ∷ es) = EachAccepted (changed_to s r) es
 
 -- pulses per epoch are 16-bit

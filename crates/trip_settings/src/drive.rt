@@ -7,21 +7,14 @@ ghost use Rattle.trip_settings.specs.Drive as spec;
 use numeric::refusal::Refusal;
 use numeric::vec3::Vec3;
 use records::record::Epoch;
-use tdcp::displacement::{Delta, Displacement, Settings, delta_position};
+use tdcp::displacement::{Delta, Settings, delta_position};
 use tdcp::valid::settings_pass;
-use trip::trip::{Fuel, Reported, Step, Trip};
+use trip::trip::{Report, Trip};
 
 #[derive(Clone, Copy)]
 pub struct Drive {
     pub trip: Trip,
     pub settings: Settings,
-}
-
-// A drive begun or with new settings, or why not.
-#[derive(Clone, Copy)]
-pub enum Driving {
-    Refused(Refusal),
-    Goes(Drive),
 }
 
 // The trip with a displacement, and that displacement.
@@ -31,75 +24,55 @@ pub struct Travelled {
     pub moved: Delta,
 }
 
-#[derive(Clone, Copy)]
-pub enum Travel {
-    Refused(Refusal),
-    Goes(Travelled),
-}
-
 // Adds a displacement, where there is one, to the trip that was held. Its number comes before 16.
-pub(crate) fn travel_by(held: Step, answer: Displacement, pulses: u16) -> Travel
+pub(crate) fn travel_by(
+    held: Result<Trip, Refusal>,
+    answer: Result<Delta, Refusal>,
+    pulses: u16,
+) -> Result<Travelled, Refusal>
     ensures { result ≡ spec.travel_by held pulses answer }
 {
-    match answer {
-        Displacement::Refused(r) => Travel::Refused(r),
-        Displacement::Moved(d) => match held {
-            Step::Refused(r) => Travel::Refused(r),
-            Step::Goes(t) => {
-                let delta = d.delta;
-                let after = t.add(delta, pulses);
-                match after {
-                    Step::Refused(why) => Travel::Refused(why),
-                    Step::Goes(u) => Travel::Goes(Travelled { trip: u, moved: d }),
-                }
-            }
-        },
-    }
+    let moved = answer?;
+    let before = held?;
+    let trip = before.add(moved.delta, pulses)?;
+    Ok(Travelled { trip, moved })
 }
 
 // Checks rule 16 of the trip that was held.
-pub(crate) fn tested(held: Step) -> Step
+pub(crate) fn tested(held: Result<Trip, Refusal>) -> Result<Trip, Refusal>
     ensures { result ≡ spec.tested held }
 {
-    match held {
-        Step::Refused(r) => Step::Refused(r),
-        Step::Goes(t) => {
-            if t.is_sound() {
-                Step::Goes(t)
-            } else {
-                Step::Refused(Refusal::BadTrip)
-            }
-        }
+    let trip = held?;
+    if !trip.is_sound() {
+        return Err(Refusal::BadTrip);
     }
+    Ok(trip)
 }
 
 // Returns the trip with these settings, or 3, or else the trip's 16.
-pub(crate) fn under_new(settings: Settings, trip: Step) -> Driving
+pub(crate) fn under_new(settings: Settings, trip: Result<Trip, Refusal>) -> Result<Drive, Refusal>
     ensures { result ≡ spec.under_new settings trip }
 {
     if !settings_pass(settings) {
-        return Driving::Refused(Refusal::SettingOutOfRange);
+        return Err(Refusal::SettingOutOfRange);
     }
-    match trip {
-        Step::Refused(r) => Driving::Refused(r),
-        Step::Goes(t) => Driving::Goes(Drive { trip: t, settings }),
-    }
+    let trip = trip?;
+    Ok(Drive { trip, settings })
 }
 
 impl Drive {
     // Starts a trip with these settings and so many pulses per kilometre.
-    pub fn begin(settings: Settings, rate: u16) -> Driving
+    pub fn begin(settings: Settings, rate: u16) -> Result<Drive, Refusal>
         ensures { result ≡ spec.begun_of settings rate }
     {
         under_new(settings, Trip::start(rate))
     }
 
     // Puts new settings in force.
-    pub fn change(self, settings: Settings) -> Driving
+    pub fn change(self, settings: Settings) -> Result<Drive, Refusal>
         ensures { result ≡ spec.changed_of self settings }
     {
-        let trip = self.trip;
-        under_new(settings, tested(Step::Goes(trip)))
+        under_new(settings, tested(Ok(self.trip)))
     }
 
     // Works the displacement between two epochs out under the settings in force and adds it to the trip with its pulses.
@@ -110,28 +83,24 @@ impl Drive {
         dt: f64,
         receiver: Vec3,
         pulses: u16,
-    ) -> Travel
+    ) -> Result<Travelled, Refusal>
         ensures { spec.Travels self.trip (general previous current dt receiver self.settings) pulses result }
     {
-        let trip = self.trip;
-        let settings = self.settings;
-        let answer = delta_position(previous, current, dt, receiver, settings);
-        travel_by(Step::Goes(trip), answer, pulses)
+        let answer = delta_position(previous, current, dt, receiver, self.settings);
+        travel_by(Ok(self.trip), answer, pulses)
     }
 
     // Reports both totals of the trip and how far they were apart.
-    pub fn report(self) -> Reported
+    pub fn report(self) -> Result<Report, Refusal>
         ensures { Reports self.trip result }
     {
-        let trip = self.trip;
-        trip.report()
+        self.trip.report()
     }
 
     // Returns the millilitres for a kilometre of its carrier distance.
-    pub fn fuel(self, millilitres: u32) -> Fuel
+    pub fn fuel(self, millilitres: u32) -> Result<u64, Refusal>
         ensures { result ≡ fuelled self.trip millilitres }
     {
-        let trip = self.trip;
-        trip.fuel(millilitres)
+        self.trip.fuel(millilitres)
     }
 }

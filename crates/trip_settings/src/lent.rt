@@ -7,11 +7,12 @@ ghost use Rattle.trip.specs.Words.{held_of};
 ghost use Rattle.trip_settings.specs.Drive.{begun_of, under_new, tested};
 ghost use Rattle.trip_settings.specs.Lent as spec;
 
-use crate::drive::{Drive, Driving, Travel, tested, travel_by, under_new};
+use crate::drive::{Drive, tested, travel_by, under_new};
 use numeric::order::pattern;
-use tdcp::displacement::{Displacement, Settings};
+use numeric::refusal::Refusal;
+use tdcp::displacement::{Delta, Settings};
 use tdcp_columns::settings::displacement_settings;
-use trip::words::{held, words};
+use trip::trip::Trip;
 
 // Returns the patterns of the five floats.
 fn patterns_of(s: Settings) -> [u64; 5]
@@ -26,54 +27,48 @@ fn patterns_of(s: Settings) -> [u64; 5]
 }
 
 // Starts a trip with these settings.
-pub fn begun(settings: &[f64; 5], rounds: usize, per_km: u16) -> Driving
+pub fn begun(settings: &[f64; 5], rounds: usize, per_km: u16) -> Result<Drive, Refusal>
     ensures { result ≡ begun_of (displacement_settings settings.now rounds) per_km }
 {
-    let s = displacement_settings(settings, rounds);
-    Drive::begin(s, per_km)
+    Drive::begin(displacement_settings(settings, rounds), per_km)
 }
 
 // Changes the settings of the trip that the lent words hold.
-pub fn changed(trip: &[u64; 6], settings: &[f64; 5], rounds: usize) -> Driving
+pub fn changed(trip: &[u64; 6], settings: &[f64; 5], rounds: usize) -> Result<Drive, Refusal>
     ensures { result ≡ under_new (displacement_settings settings.now rounds) (tested (held_of trip.now)) }
 {
-    let s = displacement_settings(settings, rounds);
-    let w = *trip;
-    under_new(s, tested(held(w)))
+    let held = Trip::try_from(*trip);
+    under_new(displacement_settings(settings, rounds), tested(held))
 }
 
 // Writes the trip that began to the lent words and its settings to the lent patterns and rounds, and returns 0. On refusal, returns its number and changes nothing.
 pub fn put_begun(
-    driving: Driving,
+    driving: Result<Drive, Refusal>,
     trip: &mut [u64; 6],
     in_force: &mut [u64; 5],
     in_force_rounds: &mut usize,
 ) -> u8
     ensures { spec.TripBegun driving result (lent trip) (lent in_force) (lent in_force_rounds) }
 {
-    match driving {
-        Driving::Refused(r) => r.number(),
-        Driving::Goes(v) => {
-            let t = v.trip;
-            let n = v.settings;
-            *trip = words(t);
-            *in_force = patterns_of(n);
-            *in_force_rounds = n.rounds as usize;
-            0
-        }
+    if let Ok(v) = driving {
+        *trip = v.trip.into();
     }
+    put_settings(driving, in_force, in_force_rounds)
 }
 
 // Writes the settings in force to the lent patterns and rounds and returns 0. On refusal, returns its number and changes nothing.
-pub fn put_settings(driving: Driving, in_force: &mut [u64; 5], in_force_rounds: &mut usize) -> u8
+pub fn put_settings(
+    driving: Result<Drive, Refusal>,
+    in_force: &mut [u64; 5],
+    in_force_rounds: &mut usize,
+) -> u8
     ensures { spec.SettingsPut driving result (lent in_force) (lent in_force_rounds) }
 {
     match driving {
-        Driving::Refused(r) => r.number(),
-        Driving::Goes(v) => {
-            let n = v.settings;
-            *in_force = patterns_of(n);
-            *in_force_rounds = n.rounds as usize;
+        Err(r) => r.number(),
+        Ok(v) => {
+            *in_force = patterns_of(v.settings);
+            *in_force_rounds = v.settings.rounds as usize;
             0
         }
     }
@@ -83,7 +78,7 @@ pub fn put_settings(driving: Driving, in_force: &mut [u64; 5], in_force_rounds: 
 // `counts`, and returns 0. On refusal, returns its number and changes nothing.
 pub fn travel_into(
     trip: &mut [u64; 6],
-    moved: Displacement,
+    moved: Result<Delta, Refusal>,
     pulses: u16,
     delta: &mut [u64; 3],
     counts: &mut [usize; 2],
@@ -91,20 +86,12 @@ pub fn travel_into(
     ensures { spec.TravelLeaves (spec.travelled_by moved pulses trip.old) result
         trip.old trip.new delta.old delta.new counts.old counts.new }
 {
-    let w = *trip;
-    let answer = travel_by(held(w), moved, pulses);
-    match answer {
-        Travel::Refused(r) => r.number(),
-        Travel::Goes(v) => {
-            let t = v.trip;
-            let d = v.moved;
-            let m = d.delta;
-            let x = pattern(m.x);
-            let y = pattern(m.y);
-            let z = pattern(m.z);
-            *trip = words(t);
-            *delta = [x, y, z];
-            *counts = [d.used, d.screened];
+    match travel_by(Trip::try_from(*trip), moved, pulses) {
+        Err(r) => r.number(),
+        Ok(v) => {
+            *trip = v.trip.into();
+            *delta = v.moved.delta.patterns();
+            *counts = [v.moved.used, v.moved.screened];
             0
         }
     }

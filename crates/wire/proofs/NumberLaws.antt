@@ -6,14 +6,13 @@ use Prim.Native.Nat.{ℕ, zero, suc, ◌+◌, ◌-◌, ◌*◌, ◌/◌, ◌%◌
 use native.Mathlib.Nat.{pow-le-pow_right}
 use native.Mathlib.Omega.{arith}
 use lib.Dec.{ltb}
-use borrow.Author.Tests.{lt-ltb, le-ltb, ltb-true}
+use borrow.Author.Tests.{lt-ltb, le-ltb, ltb-true, ltb-false}
 use lib.ListN.{length, get_or, take, drop, set, length-drop, length-set}
 use lib.Seq.{drop-cons, sets, length-take-le, get_or-drop}
-use lib.IntN.{ℤ, pos, negsuc, ◌-ℤ◌}
-use lib.Signed.{mag, lt_z}
+use lib.IntN.{ℤ, pos, negsuc}
 use mir.Syntax.{w32}
 use mir.Val.{SFits, to_z, of_z}
-use mir.Facts.{to_z-of_z, to_z_pos}
+use mir.Facts.{to_z_pos, to_z-neg}
 use Rattle.records.specs.Record.{unsigned}
 use Rattle.wire.specs.Number.{bytes_in, number_in, number_at, signed, Bytes}
 
@@ -157,26 +156,22 @@ module _ {out₀ : List ℕ} {at w n : ℕ} {out : List ℕ} {i rest : ℕ} (h :
 
 -- ---- signed numbers
 
-low : (n : ℕ) → negsuc 0 -ℤ pos n ≡ negsuc n
-low zero = refl
-low (suc n) = ap negsuc (omega arith)
+-- what the bits of a signed number are, and what number the bits are
+pub bits-are : (z : ℤ) → of_z w32 z ≡ unsigned z
+unfolding unsigned
+bits-are (pos n) = refl
+bits-are (negsuc n) = refl
 
-minus_one : (n : ℕ) → n < 2 ^ 31 → to_z w32 (2 ^ 32 - 1) -ℤ to_z w32 n ≡ negsuc n
-minus_one n h = ap (λ (z : ℤ). negsuc 0 -ℤ z) (to_z_pos w32 h) ∙ low n
-
-pub minus-fits : (n : ℕ) → n < 2 ^ 31 → SFits w32 (to_z w32 (2 ^ 32 - 1) -ℤ to_z w32 n)
-minus-fits n h = rw (minus_one n h) (record { sfits = h })
-
-pub minus_is : (n : ℕ) → n < 2 ^ 31 → to_z w32 (of_z w32 (to_z w32 (2 ^ 32 - 1) -ℤ to_z w32 n)) ≡ negsuc n
-minus_is n h = to_z-of_z (minus-fits n h) ∙ minus_one n h
-
-pub signed_low : (n : ℕ) → n < 2 ^ 31 → pos n ≡ signed n
+pub signed-is : (n : ℕ) → n < 2 ^ 32 → to_z w32 n ≡ signed n
 unfolding signed
-signed_low n h = rw (lt-ltb n (2 ^ 31) h)
-
-pub signed_high : (n : ℕ) → 2 ^ 31 ≤ n → negsuc (2 ^ 32 - 1 - n) ≡ signed n
-unfolding signed
-signed_high n h = rw (le-ltb n (2 ^ 31) h) (ap negsuc (omega arith))
+signed-is n h = go (ltb n (2 ^ 31)) refl
+  where
+    go : (b : Bool) → ltb n (2 ^ 31) ≡ b → to_z w32 n ≡ cond b (pos n) (negsuc (2 ^ 32 - suc n))
+    go true e = to_z_pos w32 (ltb-true n (2 ^ 31) e)
+    go false e =
+        let l = ltb-false n (2 ^ 31) e in
+        let q : n ≡ 2 ^ 32 - suc (2 ^ 32 - suc n) = omega arith in
+        ap (to_z w32) q ∙ to_z-neg w32 (2 ^ 32 - suc n) (omega arith)
 
 -- signed and back, and back and signed
 pub unsigned_signed : (n : ℕ) → n < 2 ^ 32 → unsigned (signed n) ≡ n
@@ -199,39 +194,3 @@ pub unsigned_small : (z : ℤ) → SFits w32 z → unsigned z < 2 ^ 32
 unfolding unsigned
 unsigned_small (pos n) h = let l : n < 2 ^ 31 = h.sfits in omega arith
 unsigned_small (negsuc n) h = omega arith
-
--- -(n + 1) from below: what the code computes of a negative number
-
-up : (n : ℕ) → negsuc 0 -ℤ negsuc n ≡ pos n
-up zero = refl
-up (suc n) = rw (le-ltb (suc (suc n)) 1 (omega arith)) (ap pos (omega arith))
-
-pub record Negative (z : ℤ) : Type 0 where
-  pub small : mag z < 2 ^ 31
-  pub fits : SFits w32 (negsuc 0 -ℤ to_z w32 (of_z w32 z))
-  pub is : to_z w32 (of_z w32 (negsuc 0 -ℤ to_z w32 (of_z w32 z))) ≡ pos (mag z)
-  pub bits : 2 ^ 32 - 1 - mag z ≡ unsigned z
-
-pub negative : (z : ℤ) → SFits w32 z → lt_z (to_z w32 (of_z w32 z)) (pos 0) ≡ true → Negative z
-unfolding unsigned
-negative z f t = go z f (rw (to_z-of_z f) at t)
-  where
-    go : (z : ℤ) → SFits w32 z → lt_z z (pos 0) ≡ true → Negative z
-    go (pos n) f t = absurd (let l = ltb-true n 0 t in omega arith)
-    go (negsuc n) f t =
-        let l : n < 2 ^ 31 = f.sfits in
-        let e = ap (λ (y : ℤ). negsuc 0 -ℤ y) (to_z-of_z f) ∙ up n in
-        let g : SFits w32 (negsuc 0 -ℤ to_z w32 (of_z w32 (negsuc n))) = rw e (record { sfits = l }) in
-        record { small = l; fits = g; is = to_z-of_z g ∙ e; bits = omega arith }
-
-pub record Positive (z : ℤ) : Type 0 where
-  pub small : unsigned z < 2 ^ 31
-  pub is : to_z w32 (of_z w32 z) ≡ pos (unsigned z)
-
-pub positive : (z : ℤ) → SFits w32 z → lt_z (to_z w32 (of_z w32 z)) (pos 0) ≡ false → Positive z
-unfolding unsigned
-positive z f t = go z f (rw (to_z-of_z f) at t)
-  where
-    go : (z : ℤ) → SFits w32 z → lt_z z (pos 0) ≡ false → Positive z
-    go (pos n) f t = record { small = f.sfits; is = to_z-of_z f }
-    go (negsuc n) f t = absurd (let z : ◌≡◌ {A = ℕ} 0 1 = cc in omega arith)

@@ -4,6 +4,7 @@ use Rattle.lists.specs.Memory.{before, after, Memory, LentNumbers}
 use Rattle.numeric.specs.Refusal.{number_of}
 use Rattle.numeric.specs.declared.refusal.Refusal.TheVariants.{TooMany, BrokenRecords}
 use Rattle.wire.specs.Record.{count_in, is_whole, records_of, epoch_bytes}
+use Rattle.wire.specs.declared.columns.Columns.{Columns}
 use Rattle.wire.specs.Columns.{RecordColumns, record_columns, columns_fit, columns_with, column_records, over}
 
 abbrev pub LentStates : Type 0
@@ -12,6 +13,10 @@ LentStates = Memory (List ℤ)
 -- the columns of records before a call
 abbrev pub records_before : LentNumbers → LentNumbers → LentNumbers → LentStates → LentNumbers → RecordColumns
 records_before constellation svid band state floats = record_columns (before constellation) (before svid) (before band) (before state) (before floats)
+
+-- those of lent columns that stand together
+abbrev pub columns_of : Columns → RecordColumns
+columns_of c = record_columns c.constellation.now c.svid.now c.band.now c.state.now c.floats.now
 
 -- and after it
 pub record LentRecords : Type 0 where

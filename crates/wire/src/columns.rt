@@ -3,31 +3,36 @@ ghost use Rattle.std.specs.Prelude.{◌≡◌, true, ◌*◌, ◌≤◌, length}
 ghost use Rattle.lists.specs.Memory.{held, lent};
 ghost use Rattle.wire.specs.Record.{records_in};
 ghost use Rattle.wire.specs.Columns as spec;
-ghost use Rattle.wire.specs.Lent.{records_before, lent_records};
+ghost use Rattle.wire.specs.Lent.{columns_of, lent_records};
 ghost use Rattle.wire.specs.Steps.{columns_now, HoldsRecord, Filled, Emitted};
 
 use crate::number::{number_at, signed};
 use crate::record::{CarrierRecord, pattern_in, put_record};
 
+// Records in columns that a caller lends, of which the first `count` count: six patterns for each, and one number in each other column.
+#[derive(Clone, Copy)]
+pub struct Columns<'a> {
+    pub constellation: &'a [u8],
+    pub svid: &'a [u16],
+    pub band: &'a [u32],
+    pub state: &'a [i32],
+    pub floats: &'a [u64],
+    pub count: usize,
+}
+
 // Checks that there are at most 64 records and that the columns hold them.
-pub fn columns_fit(
-    constellation: &[u8],
-    svid: &[u16],
-    band: &[u32],
-    state: &[i32],
-    floats: &[u64],
-    n: usize,
-) -> bool
-    ensures { result ≡ spec.columns_fit (records_before constellation svid band state floats) n }
+pub fn columns_fit(columns: Columns) -> bool
+    ensures { result ≡ spec.columns_fit (columns_of columns.entry) columns.entry.count }
 {
+    let n = columns.count;
     if n > 64 {
         return false;
     }
-    (n <= constellation.len())
-        & (n <= svid.len())
-        & (n <= band.len())
-        & (n <= state.len())
-        & (6 * n <= floats.len())
+    (n <= columns.constellation.len())
+        & (n <= columns.svid.len())
+        & (n <= columns.band.len())
+        & (n <= columns.state.len())
+        & (6 * n <= columns.floats.len())
 }
 
 // Writes the first n records of s into the columns, field by field: a record as a struct goes through memory, where loads wait for its stores.
@@ -44,8 +49,7 @@ pub fn fill(
     requires n_in_bounds { 59 * n ≤ length s.now }
     ensures { Filled (records_in s.now n) (lent_records (lent constellation) (lent svid) (lent band) (lent state) (lent floats)) }
 {
-    let mut i: usize = 0;
-    while i < n {
+    for i in 0..n {
         let from = 59 * i;
         let at = 6 * i;
         let first = number_at(s, from, 1);
@@ -68,56 +72,38 @@ pub fn fill(
         floats[at + 3] = z;
         floats[at + 4] = elevation;
         floats[at + 5] = rate;
-        i += 1;
     }
 }
 
 // Returns the record at place i of the columns.
-fn column_record(
-    constellation: &[u8],
-    svid: &[u16],
-    band: &[u32],
-    state: &[i32],
-    floats: &[u64],
-    i: usize,
-) -> CarrierRecord
-    requires { HoldsRecord (columns_now constellation svid band state floats) i }
-    ensures { result ≡ spec.column_record (records_before constellation svid band state floats) i }
+fn column_record(columns: Columns, i: usize) -> CarrierRecord
+    requires { HoldsRecord (columns_of columns) i }
+    ensures { result ≡ spec.column_record (columns_of columns.entry) i }
 {
     let at = 6 * i;
-    let bits = state[i];
+    let state = columns.state[i];
     CarrierRecord {
-        constellation: constellation[i],
-        svid: svid[i],
-        band: band[i],
-        adr: floats[at],
-        state: bits,
-        x: floats[at + 1],
-        y: floats[at + 2],
-        z: floats[at + 3],
-        elevation: floats[at + 4],
-        rate: floats[at + 5],
+        constellation: columns.constellation[i],
+        svid: columns.svid[i],
+        band: columns.band[i],
+        adr: columns.floats[at],
+        state,
+        x: columns.floats[at + 1],
+        y: columns.floats[at + 2],
+        z: columns.floats[at + 3],
+        elevation: columns.floats[at + 4],
+        rate: columns.floats[at + 5],
     }
 }
 
-// Writes the first n records of the columns into out.
-pub fn put_records(
-    constellation: &[u8],
-    svid: &[u16],
-    band: &[u32],
-    state: &[i32],
-    floats: &[u64],
-    n: usize,
-    out: &mut [u8],
-)
-    requires n_value { spec.columns_fit (columns_now constellation svid band state floats) n ≡ true }
-    requires n_in_bounds { 59 * n ≤ length out.old }
-    ensures { Emitted (spec.column_records (records_before constellation svid band state floats) n) (lent out) }
+// Writes the counted records of the columns into out.
+pub fn put_records(columns: Columns, out: &mut [u8])
+    requires n_value { spec.columns_fit (columns_of columns) columns.count ≡ true }
+    requires n_in_bounds { 59 * columns.count ≤ length out.old }
+    ensures { Emitted (spec.column_records (columns_of columns.entry) columns.entry.count) (lent out) }
 {
-    let mut i: usize = 0;
-    while i < n {
-        let r = column_record(constellation, svid, band, state, floats, i);
+    for i in 0..columns.count {
+        let r = column_record(columns, i);
         put_record(out, 59 * i, r);
-        i += 1;
     }
 }

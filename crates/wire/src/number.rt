@@ -9,12 +9,10 @@ pub(crate) fn number_at(s: &[u8], at: usize, w: usize) -> u64
     requires { (w ≤ 8) × (at + w ≤ length s.now) }
     ensures { (result ≡ spec.number_at s.now at w) × (result < 256 ^ w) }
 {
-    let mut i: usize = 0;
     let mut n: u64 = 0;
-    while i < w {
+    for i in 0..w {
         let k = w - 1 - i;
         n = n * 256 + s[at + k] as u64;
-        i += 1;
     }
     n
 }
@@ -24,12 +22,10 @@ pub(crate) fn put_number(out: &mut [u8], at: usize, w: usize, n: u64)
     requires { at + w ≤ length out.old }
     ensures { out.new ≡ sets out.old at (spec.bytes_in w n) }
 {
-    let mut i: usize = 0;
     let mut rest = n;
-    while i < w {
+    for i in 0..w {
         out[at + i] = (rest % 256) as u8;
         rest /= 256;
-        i += 1;
     }
 }
 
@@ -38,18 +34,12 @@ pub(crate) fn signed(n: u64) -> i32
     requires { n < 2 ^ 32 }
     ensures { result ≡ spec.signed n }
 {
-    if n < 0x8000_0000 {
-        return n as i32;
-    }
-    -1 - ((0xFFFF_FFFF - n) as i32)
+    (n as u32).cast_signed()
 }
 
 // Returns the 32 bits of a signed number.
 pub(crate) fn unsigned(z: i32) -> u64
     ensures { result ≡ unsigned z }
 {
-    if z < 0 {
-        return 0xFFFF_FFFF - ((-1 - z) as u64);
-    }
-    z as u64
+    z.cast_unsigned() as u64
 }

@@ -1,4 +1,6 @@
 -- The carriers of records, and the answers of the displacement on them. Assumes nothing.
+use Rattle.numeric.specs.Refusal.{number_of, answer_number}
+use Rattle.std.specs.Prelude.{Result, Ok, Err}
 use mathlib.Core.Path.{◌≡◌, sym, ap, ◌∙◌}
 use mathlib.Core.List.{List}
 use Prim.Native.Nat.{ℕ, ◌%◌, ◌≤◌, ◌<◌}
@@ -9,7 +11,7 @@ use lib.Seq.{sets, sets-eq}
 use lib.IntN.{ℤ}
 use lib.Ieee.{Float}
 use Rattle.lists.proofs.Walk.{places-map, places-at}
-use Rattle.numeric.specs.Order.{pattern_of}
+use Rattle.numeric.specs.Vec3.{vector_patterns}
 use Rattle.numeric.specs.declared.refusal.Refusal.{Refusal}
 use Rattle.numeric.specs.declared.refusal.Refusal.TheVariants.{TooMany, BrokenRecords}
 use Rattle.records.specs.Signals as signals
@@ -19,10 +21,8 @@ use Rattle.records.specs.declared.record.Carrier.{Carrier}
 use Rattle.records.proofs.RecordLaws.{blank}
 use Rattle.records.proofs.EpochLaws.{cut-count, cut_fits, cut-is}
 use Rattle.numeric.specs.Rules.{ruled}
-use Rattle.tdcp.specs.Displacement.{displacement_of, displacement_number, Promised}
+use Rattle.tdcp.specs.Displacement.{displacement_of, Promised}
 use Rattle.tdcp.specs.declared.displacement.Delta.{Delta}
-use Rattle.tdcp.specs.declared.displacement.Displacement.{Displacement}
-use Rattle.tdcp.specs.declared.displacement.Displacement.TheVariants.{Refused, Moved}
 use Rattle.wire.specs.Number.{bytes_in, five_bytes}
 use Rattle.wire.specs.Record.{record_at, count_in}
 use Rattle.wire.specs.Columns.{over}
@@ -35,9 +35,6 @@ carrier-in s n i d l = sym (ap (λ (xs : List Carrier). get_or xs i d) (places-m
 
 -- ---- the epoch of the records s, once its carriers stand in signals, states and floats
 module _ (s : List ℕ) {ss : List ℕ} {ts : List ℤ} {fs : List Float} (h : Laid (record_carriers s (count_in s)) (count_in s) ss ts fs) (few : count_in s ≤ 64) where
-  pub laid-count : length (take (count_in s) ss) ≡ count_in s
-  laid-count = cut-count ss ts fs (count_in s) h.signals-long few
-
   pub laid-fits : SignalsFit (take (count_in s) ss) ts fs
   laid-fits = cut_fits ss ts fs (count_in s) h.signals-long few (omega (arith, h.states-long, few)) (omega (arith, h.floats-long, few)) h.small
 
@@ -48,7 +45,7 @@ module _ (s : List ℕ) {ss : List ℕ} {ts : List ℤ} {fs : List Float} (h : L
 
 -- ---- the answers
 
-not_moved : (r : Refusal) (d : Delta) → Refused r ≡ Moved d → ⊥
+not_moved : (r : Refusal) (d : Delta) → Err r ≡ Ok d → ⊥
 not_moved r d e = let z : ◌≡◌ {A = ℕ} 0 1 = cc in omega arith
 
 module _ (h : Handed) (out : List ℕ) where
@@ -58,7 +55,7 @@ module _ (h : Handed) (out : List ℕ) where
   abbrev c : List ℕ
   c = h.current
 
-  refusal-answers : {r : Refusal} {number : ℕ} → Refused r ≡ records_displaced h out → number ≡ displacement_number (Refused r) → RecordAnswers h number out out
+  refusal-answers : {r : Refusal} {number : ℕ} → Err r ≡ records_displaced h out → number ≡ number_of r → RecordAnswers h number out out
   refusal-answers {r} e n = record { number_is = rw (← e) n; result-is = rw (← e); accepted = λ d q. absurd (not_moved r d (e ∙ q)) }
 
   pub previous-broken : {number : ℕ} → (length p % 59 ≡ 0 → ⊥) → number ≡ 21 → RecordAnswers h number out out
@@ -91,13 +88,13 @@ module _ (h : Handed) (out : List ℕ) where
             unfolding records_displaced record_rules ruled
             answer-is = rw (eq-eqb (length p % 59) 0 hp, eq-eqb (length c % 59) 0 hc, le-ltb 64 (count_in p) fp, le-ltb 64 (count_in c) fc, le-ltb (length out) 40 room)
 
-            pub displacement-answers : {d : Displacement} → Promised (record_input h) d → {number : ℕ} {next : List ℕ} → number ≡ displacement_number d → next ≡ bytes_after d out → RecordAnswers h number out next
+            pub displacement-answers : {d : Result Delta Refusal} → Promised (record_input h) d → {number : ℕ} {next : List ℕ} → number ≡ answer_number d → next ≡ bytes_after d out → RecordAnswers h number out next
             displacement-answers {d} made a b =
                 let e : records_displaced h out ≡ d = answer-is ∙ sym made.answer in
                 record { number_is = rw e a; result-is = rw e b; accepted = λ v q. made.accepted v (sym e ∙ q) }
 
 -- the 40 bytes of a result, as the code writes them
-pub result-is : (out : List ℕ) (d : Delta) (x y z : ℕ) {next : List ℕ} → 40 ≤ length out → x ≡ pattern_of d.delta.x → y ≡ pattern_of d.delta.y → z ≡ pattern_of d.delta.z
-    → next ≡ sets out 0 (five_bytes d.used d.screened x y z) → next ≡ over (delta_bytes d) out
+pub result-is : (out : List ℕ) (d : Delta) (v : List ℕ) {next : List ℕ} → 40 ≤ length out → v ≡ vector_patterns d.delta
+    → next ≡ sets out 0 (five_bytes d.used d.screened (get_or v 0 0) (get_or v 1 0) (get_or v 2 0)) → next ≡ over (delta_bytes d) out
 unfolding bytes_in
-result-is out d x y z room a b c h = h ∙ sets-eq (five_bytes d.used d.screened x y z) out 0 room ∙ rw (a, b, c)
+result-is out d v room e h = h ∙ sets-eq (five_bytes d.used d.screened (get_or v 0 0) (get_or v 1 0) (get_or v 2 0)) out 0 room ∙ rw e

@@ -1,4 +1,7 @@
 -- The displacement of two slices of carrier records (request xiii): its input, the number of the answer, and the bytes of the result afterwards. Definitions only.
+use Rattle.numeric.specs.Refusal.{answer_number}
+use Rattle.std.specs.Prelude.{Result, Ok, Err}
+use Rattle.numeric.specs.declared.refusal.Refusal.{Refusal}
 use Rattle.std.specs.Prelude.{◌≡◌, ℕ, not, ◌&&◌, ◌||◌, List, [], ◌∷◌, map, ltb, length, Float}
 use Rattle.exact.specs.Float.{bits, +0}
 use Rattle.numeric.specs.Order.{pattern_of}
@@ -8,11 +11,9 @@ use Rattle.records.specs.Carriers.{CarrierColumns, carrier_columns}
 use Rattle.records.specs.declared.record.Carrier.{Carrier}
 use Rattle.records.specs.declared.record.Epoch.{Epoch}
 use Rattle.numeric.specs.Rules.{Rule, rule, ruled}
-use Rattle.tdcp.specs.Displacement.{Input, general, displacement_of, displacement_number, Accepted}
+use Rattle.tdcp.specs.Displacement.{Input, general, displacement_of, Accepted}
 use Rattle.tdcp.specs.declared.displacement.Settings.{Settings}
 use Rattle.tdcp.specs.declared.displacement.Delta.{Delta}
-use Rattle.tdcp.specs.declared.displacement.Displacement.{Displacement}
-use Rattle.tdcp.specs.declared.displacement.Displacement.TheVariants.{Refused, Moved}
 use Rattle.wire.specs.Number.{five_bytes}
 use Rattle.wire.specs.Record.{records_in, count_in, is_whole}
 use Rattle.wire.specs.Columns.{RecordColumns, over}
@@ -74,23 +75,23 @@ record_rules previous current result =
     ∷ []
 
 -- these, and only then what the displacement of the two epochs is
-unfoldable pub records_displaced : Handed → List ℕ → Displacement
-records_displaced h result = ruled Refused (record_rules h.previous h.current result) (displacement_of (record_input h))
+unfoldable pub records_displaced : Handed → List ℕ → Result Delta Refusal
+records_displaced h result = ruled Err (record_rules h.previous h.current result) (displacement_of (record_input h))
 
 -- used and screened, then the displacement in metres: 40 bytes
 abbrev pub delta_bytes : Delta → List ℕ
 delta_bytes d = five_bytes d.used d.screened (pattern_of d.delta.x) (pattern_of d.delta.y) (pattern_of d.delta.z)
 
 -- a refusal leaves the result unchanged, and nothing past the fortieth byte is ever written
-abbrev pub bytes_after : Displacement → List ℕ → List ℕ
-bytes_after (Refused r) before = before
-bytes_after (Moved d) before = over (delta_bytes d) before
+abbrev pub bytes_after : Result Delta Refusal → List ℕ → List ℕ
+bytes_after (Err r) before = before
+bytes_after (Ok d) before = over (delta_bytes d) before
 
 -- The number and the result afterwards are those of the answer. An accepted displacement has what `Accepted` says, demand 3 of every round included.
 pub record RecordAnswers (h : Handed) (number : ℕ) (result₀ result : List ℕ) : Type 0 where
-  pub number_is : number ≡ displacement_number (records_displaced h result₀)
+  pub number_is : number ≡ answer_number (records_displaced h result₀)
   pub result-is : result ≡ bytes_after (records_displaced h result₀) result₀
-  pub accepted : (d : Delta) → records_displaced h result₀ ≡ Moved d → Accepted (record_input h) d
+  pub accepted : (d : Delta) → records_displaced h result₀ ≡ Ok d → Accepted (record_input h) d
 
 -- ---- beside the displacement of columns
 

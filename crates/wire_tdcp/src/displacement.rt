@@ -5,13 +5,13 @@ ghost use Rattle.tdcp.specs.Displacement.{Promised};
 ghost use Rattle.wire.specs.Record.{count_in};
 ghost use Rattle.wire_tdcp.specs.Displacement as spec;
 
-use numeric::order::{float, pattern};
+use numeric::order::float;
 use numeric::refusal::Refusal;
 use numeric::vec3::Vec3;
-use records::carriers::put_carrier;
+use records::arrays::CarrierArrays;
 use records::pair::Profile;
 use records::record::Carrier;
-use tdcp::displacement::{Displacement, Interval, Settings, displaced, plain};
+use tdcp::displacement::{Delta, Interval, Settings, displaced};
 use wire::record::{CarrierRecord, put_five, record_of};
 
 // Returns the carrier of a record.
@@ -24,38 +24,32 @@ fn carrier_of(r: CarrierRecord) -> Carrier
     let z = float(r.z);
     let elevation = float(r.elevation);
     let rate = float(r.rate);
-    let satellite = Vec3 { x: x, y: y, z: z };
+    let satellite = Vec3 { x, y, z };
     let bits = r.state;
     Carrier {
         constellation: r.constellation,
         svid: r.svid,
         band: r.band,
-        adr: adr,
+        adr,
         state: bits,
-        satellite: satellite,
-        elevation: elevation,
-        rate: rate,
+        satellite,
+        elevation,
+        rate,
     }
 }
 
-// Writes the carriers of the first n records of s.
-fn carriers_into(
-    s: &[u8],
-    n: usize,
-    signals: &mut [u64; 64],
-    states: &mut [i32; 64],
-    floats: &mut [f64; 384],
-)
-    requires { (n ≤ 64) × (59 * n ≤ length s.now) × (length signals.old ≡ 64) × (length states.old ≡ 64) × (length floats.old ≡ 384) }
-    ensures { Laid (spec.record_carriers s.now n) n signals.new states.new floats.new }
+// Returns the carriers of the first n records of s.
+fn carriers_in(s: &[u8], n: usize) -> CarrierArrays
+    requires { (n ≤ 64) × (59 * n ≤ length s.now) }
+    ensures { Laid (spec.record_carriers s.now n) n result.signals result.states result.floats }
 {
-    let mut i: usize = 0;
-    while i < n {
+    let mut arrays = CarrierArrays::new();
+    for i in 0..n {
         let r = record_of(s, 59 * i);
         let c = carrier_of(r);
-        put_carrier(c, i, signals, states, floats);
-        i += 1;
+        arrays.put(i, c);
     }
+    arrays
 }
 
 // Returns the displacement between two slices of at most 64 records.
@@ -65,46 +59,24 @@ fn displacement_of(
     dt: f64,
     receiver: Vec3,
     settings: Settings,
-) -> Displacement
+) -> Result<Delta, Refusal>
     requires { (count_in previous.now ≤ 64) × (count_in current.now ≤ 64) }
     ensures { Promised (spec.record_input (spec.handed previous.now current.now dt receiver settings)) result }
 {
     let m = previous.len() / 59;
     let n = current.len() / 59;
-    let mut previous_signals = [0u64; 64];
-    let mut previous_states = [0i32; 64];
-    let mut previous_floats = [0.0; 384];
-    carriers_into(
-        previous,
-        m,
-        &mut previous_signals,
-        &mut previous_states,
-        &mut previous_floats,
-    );
-    let mut current_signals = [0u64; 64];
-    let mut current_states = [0i32; 64];
-    let mut current_floats = [0.0; 384];
-    carriers_into(
-        current,
-        n,
-        &mut current_signals,
-        &mut current_states,
-        &mut current_floats,
-    );
-    let answer = displaced(
-        &previous_signals[..m],
-        &previous_states,
-        &previous_floats,
-        &current_signals[..n],
-        &current_states,
-        &current_floats,
+    let then = carriers_in(previous, m);
+    let now = carriers_in(current, n);
+    displaced(
+        then.first(m),
+        now.first(n),
         Interval::Seconds(dt),
         receiver,
         settings,
         Profile::General,
         false,
-    );
-    plain(answer)
+    )
+    .map(|d| d.moved)
 }
 
 // Returns 0 and writes how many pairs were used and screened out and the displacement in metres to the first 40 bytes of `result`. On refusal, returns its number and
@@ -135,21 +107,12 @@ pub fn displacement_records(
     if res.len() < 40 {
         return Refusal::TooMany.number();
     }
-    let answer = displacement_of(previous, current, dt, receiver, settings);
-    match answer {
-        Displacement::Moved(d) => {
-            let v = d.delta;
-            put_five(
-                res,
-                0,
-                d.used as u64,
-                d.screened as u64,
-                pattern(v.x),
-                pattern(v.y),
-                pattern(v.z),
-            );
+    match displacement_of(previous, current, dt, receiver, settings) {
+        Ok(d) => {
+            let [x, y, z] = d.delta.patterns();
+            put_five(res, 0, d.used as u64, d.screened as u64, x, y, z);
             0
         }
-        Displacement::Refused(r) => r.number(),
+        Err(r) => r.number(),
     }
 }

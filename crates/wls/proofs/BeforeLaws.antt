@@ -1,4 +1,6 @@
 -- THE LAW of request (v) for a fix: it is refused by 15, or it is the one from before the request; and where no range met is zero or not finite it is that one. Assumes nothing.
+use Rattle.std.specs.Prelude.{Result, Ok, Err, ⊤}
+use Rattle.wls.specs.declared.fix.Solution.{Solution}
 use mathlib.Core.Logic.{◌⊎◌, inl, inr}
 use mathlib.Core.Path.{◌≡◌, refl, sym, ap, ◌∙◌}
 use mathlib.Core.Bool.{Bool, true, false, not, cond, ◌&&◌}
@@ -21,8 +23,6 @@ use Rattle.clocks.specs.declared.clocks.Clocks.{Clocks}
 use Rattle.records.specs.declared.record.Observation.{Observation}
 use Rattle.numeric.specs.Rules.{Rule, rule, ruled}
 use Rattle.estimate_rounds.specs.Rounds.{End, Stopped, Reached, Fit, moved, short_step, reached_at, begun, after_round, fit_from, last_rows, finite_at, concluded}
-use Rattle.estimate_rounds.specs.declared.rules.Check.{Check}
-use Rattle.estimate_rounds.specs.declared.rules.Check.TheVariants.{Refused as Stops, Passed}
 use Rattle.numeric.proofs.RulesLaws.{ruled-append}
 use Rattle.estimate_rounds.proofs.RulesLaws.{checked, refused-by, passed-by}
 use Rattle.wls.specs.Front.{fix_rules}
@@ -30,8 +30,6 @@ use Rattle.wls.specs.Fix.{Input, sight_at, sight_rules, round_at, fix_stop, star
 use Rattle.quality.specs.Quality.{unweighted_matrix, dilution_of}
 use Rattle.wls.specs.Before.{bare, fit_before, rules_before, solution_before, found_before, fix_before, seen_at}
 use Rattle.wls.specs.declared.fix.Settings.{Settings}
-use Rattle.wls.specs.declared.fix.Fix.{Fix}
-use Rattle.wls.specs.declared.fix.Fix.TheVariants.{Refused}
 
 -- the states that rounds of n unknowns begin at, from x on, and the one that they leave
 pub met : ℕ → List Float → List Round → List (List Float)
@@ -152,36 +150,36 @@ module _ (settings : Settings) (k : Clocks) (os : List Observation) where
     rules_now x = end_rules n rows (sight_rules os x) (chi_at settings k os x) x
 
     -- at a state that the rounds reach: 10, and then 15 or what was before
-    end_is : (x : List Float) → ruled Refused (rules_now x) (solution_before settings k os rows x)
-        ≡ cond (not (finite_at x)) (Refused FitFailed) (cond (not (factor.accepted (factor_of (unweighted_matrix n rows)))) (Refused FitFailed)
-        (cond (seen_at os x) (ruled Refused (rule QualityNotFinite (not (finite (chi_at settings k os x) && finite (dilution_of n rows))) ∷ []) (solution_before settings k os rows x)) (Refused OnReceiver)))
+    end_is : (x : List Float) → ruled Err (rules_now x) (solution_before settings k os rows x)
+        ≡ cond (not (finite_at x)) (Err FitFailed) (cond (not (factor.accepted (factor_of (unweighted_matrix n rows)))) (Err FitFailed)
+        (cond (seen_at os x) (ruled Err (rule QualityNotFinite (not (finite (chi_at settings k os x) && finite (dilution_of n rows))) ∷ []) (solution_before settings k os rows x)) (Err OnReceiver)))
     unfolding end_rules quality_rules ruled
     end_is x =
-        ap (λ (a : Fix). cond (not (finite_at x)) (Refused FitFailed) (cond (not (factor.accepted (factor_of (unweighted_matrix n rows)))) (Refused FitFailed) a))
-        (ruled-append Refused _ (sight_rules os x) _ ∙ sights-are Refused _ os x)
+        ap (λ (a : Result Solution Refusal). cond (not (finite_at x)) (Err FitFailed) (cond (not (factor.accepted (factor_of (unweighted_matrix n rows)))) (Err FitFailed) a))
+        (ruled-append Err _ (sight_rules os x) _ ∙ sights-are Err _ os x)
 
-    end-either : (e : End) → let was = concluded Refused (rules_before settings k os rows) (solution_before settings k os rows) e in let is = concluded Refused rules_now (solution_before settings k os rows) e in (is ≡ Refused OnReceiver) ⊎ (is ≡ was)
+    end-either : (e : End) → let was = concluded Err (rules_before settings k os rows) (solution_before settings k os rows) e in let is = concluded Err rules_now (solution_before settings k os rows) e in (is ≡ Err OnReceiver) ⊎ (is ≡ was)
     unfolding ruled
     end-either (Stopped r) = inr refl
     end-either (Reached x) = go (not (finite_at x)) (not (factor.accepted (factor_of (unweighted_matrix n rows)))) (seen_at os x) _ _ (end_is x)
       where
-        go : (a b c : Bool) (is quality : Fix) → is ≡ cond a (Refused FitFailed) (cond b (Refused FitFailed) (cond c quality (Refused OnReceiver)))
-            → (is ≡ Refused OnReceiver) ⊎ (is ≡ cond a (Refused FitFailed) (cond b (Refused FitFailed) quality))
+        go : (a b c : Bool) (is quality : Result Solution Refusal) → is ≡ cond a (Err FitFailed) (cond b (Err FitFailed) (cond c quality (Err OnReceiver)))
+            → (is ≡ Err OnReceiver) ⊎ (is ≡ cond a (Err FitFailed) (cond b (Err FitFailed) quality))
         go true b c is quality e = inr e
         go false true c is quality e = inr e
         go false false true is quality e = inr e
         go false false false is quality e = inl e
 
-    end_same : (e : End) → ((x : List Float) → e ≡ Reached x → seen_at os x ≡ true) → concluded Refused rules_now (solution_before settings k os rows) e ≡ concluded Refused (rules_before settings k os rows) (solution_before settings k os rows) e
+    end_same : (e : End) → ((x : List Float) → e ≡ Reached x → seen_at os x ≡ true) → concluded Err rules_now (solution_before settings k os rows) e ≡ concluded Err (rules_before settings k os rows) (solution_before settings k os rows) e
     unfolding ruled
     end_same (Stopped r) h = refl
     end_same (Reached x) h = end_is x ∙ (rw (h x refl))
 
-    found-either : (found_over settings k os guess ≡ Refused OnReceiver) ⊎ (found_over settings k os guess ≡ found_before settings k os guess)
+    found-either : (found_over settings k os guess ≡ Err OnReceiver) ⊎ (found_over settings k os guess ≡ found_before settings k os guess)
     unfolding found_over fit_over
     found-either = go (fit-either settings.rounds (start guess))
       where
-        go : Either (now settings.rounds (start guess)) f → (found_over settings k os guess ≡ Refused OnReceiver) ⊎ (found_over settings k os guess ≡ found_before settings k os guess)
+        go : Either (now settings.rounds (start guess)) f → (found_over settings k os guess ≡ Err OnReceiver) ⊎ (found_over settings k os guess ≡ found_before settings k os guess)
         go (inl e) = inl (rw e)
         go (inr e) = rw e (end-either f.end)
 
@@ -197,18 +195,18 @@ Seen i = Clear i.settings (clocks i) (kept_observations i) (start i.guess) (fit_
 
 pub as_before : (i : Input) → Seen i → fix_of i ≡ fix_before i
 unfolding fix_of Seen
-as_before i e = ap (ruled Refused (fix_rules i.observations i.guess i.settings)) (found-same i.settings (clocks i) (kept_observations i) i.guess e)
+as_before i e = ap (ruled Err (fix_rules i.observations i.guess i.settings)) (found-same i.settings (clocks i) (kept_observations i) i.guess e)
 
-pub fifteen-or-before : (i : Input) → (fix_of i ≡ Refused OnReceiver) ⊎ (fix_of i ≡ fix_before i)
+pub fifteen-or-before : (i : Input) → (fix_of i ≡ Err OnReceiver) ⊎ (fix_of i ≡ fix_before i)
 unfolding fix_of
 fifteen-or-before i = go (checked rules) refl (found-either i.settings (clocks i) (kept_observations i) i.guess)
   where
     rules : List Rule
     rules = fix_rules i.observations i.guess i.settings
 
-    go : (v : Check) → checked (fix_rules i.observations i.guess i.settings) ≡ v
-        → (found_over i.settings (clocks i) (kept_observations i) i.guess ≡ Refused OnReceiver) ⊎ (found_over i.settings (clocks i) (kept_observations i) i.guess ≡ found_before i.settings (clocks i) (kept_observations i) i.guess)
-        → (fix_of i ≡ Refused OnReceiver) ⊎ (fix_of i ≡ fix_before i)
-    go (Stops r) e h = inr (sym (refused-by Refused _ _ (sym e)) ∙ refused-by Refused _ _ (sym e))
-    go Passed e (inl h) = inl (passed-by Refused _ _ (sym e) ∙ h)
-    go Passed e (inr h) = inr (ap (ruled Refused (fix_rules i.observations i.guess i.settings)) h)
+    go : (v : Result ⊤ Refusal) → checked (fix_rules i.observations i.guess i.settings) ≡ v
+        → (found_over i.settings (clocks i) (kept_observations i) i.guess ≡ Err OnReceiver) ⊎ (found_over i.settings (clocks i) (kept_observations i) i.guess ≡ found_before i.settings (clocks i) (kept_observations i) i.guess)
+        → (fix_of i ≡ Err OnReceiver) ⊎ (fix_of i ≡ fix_before i)
+    go (Err r) e h = inr (sym (refused-by Err _ _ (sym e)) ∙ refused-by Err _ _ (sym e))
+    go (Ok tt) e (inl h) = inl (passed-by Err _ _ (sym e) ∙ h)
+    go (Ok tt) e (inr h) = inr (ap (ruled Err (fix_rules i.observations i.guess i.settings)) h)

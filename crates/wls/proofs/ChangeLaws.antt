@@ -1,4 +1,6 @@
 -- What two requests changed of a fix, exactly: chi of the point handed out and 14, and 15 in the rounds and at the returned position. Assumes nothing.
+use Rattle.std.specs.Prelude.{Result, Ok, Err}
+use Rattle.numeric.specs.declared.sight.Sight.{Sight}
 use mathlib.Core.Logic.{◌⊎◌, inl, inr}
 use mathlib.Core.Path.{◌≡◌, refl, sym, ap, ◌∙◌, subst}
 use mathlib.Core.Bool.{Bool, true, false, not, cond, ◌&&◌}
@@ -21,8 +23,6 @@ use Rattle.numeric.specs.Real.{square}
 use Rattle.numeric.specs.Refusal.{number_of}
 use Rattle.numeric.proofs.OrderLaws.{pattern_back}
 use Rattle.numeric.specs.Sight.{sight_of, on_receiver, geometry}
-use Rattle.numeric.specs.declared.sight.Sighting.{Sighting}
-use Rattle.numeric.specs.declared.sight.Sighting.TheVariants.{Refused as NotSeen, Seen as SeenAt}
 use Rattle.numeric.specs.declared.vec3.Vec3.{Vec3}
 use Rattle.numeric.specs.declared.refusal.Refusal.{Refusal}
 use Rattle.numeric.specs.declared.refusal.Refusal.TheVariants.{FitFailed, QualityNotFinite, OnReceiver}
@@ -34,7 +34,6 @@ use Rattle.records.specs.declared.record.Observation.{Observation}
 use Rattle.numeric.specs.Rules.{Rule, rule, ruled}
 use Rattle.estimate_rounds.specs.Rules.{row_rules}
 use Rattle.estimate_rounds.specs.Rounds.{End, Stopped, Reached, vector, last_rows, finite_at, concluded}
-use Rattle.estimate_rounds.specs.declared.rules.Check.TheVariants.{Passed}
 use Rattle.numeric.proofs.RulesLaws.{ruled-append}
 use Rattle.estimate_rounds.proofs.RulesLaws.{checked, passed-by}
 use Rattle.wls.specs.Valid.{fix_input_rules}
@@ -44,8 +43,6 @@ use Rattle.quality.specs.Quality.{unweighted_matrix, dilution_of, chi_of}
 use Rattle.wls.specs.Before.{fit_before, rules_before, solution_before, found_before, fix_first, fix_before, seen_at}
 use Rattle.wls.specs.declared.fix.Settings.{Settings}
 use Rattle.wls.specs.declared.fix.Solution.{Solution}
-use Rattle.wls.specs.declared.fix.Fix.{Fix}
-use Rattle.wls.specs.declared.fix.Fix.TheVariants.{Refused, At}
 use Rattle.wls.proofs.StopLaws.{begins, unseen-stops, stops-unseen, stopped_by}
 use Rattle.wls.proofs.BeforeLaws.{sights-are, fifteen-or-before}
 use Rattle.wls.proofs.QualityBefore.{with_chi, Became, Same, Anew, became}
@@ -53,15 +50,15 @@ use Rattle.wls.proofs.FixSound.{ended as finished-at}
 
 -- ---- 15 of the rows is what the geometry of each satellite passes on
 
-abbrev pub passed_on : Sighting → Rule
-passed_on (NotSeen r) = rule r true
-passed_on (SeenAt s) = rule OnReceiver false
+abbrev pub passed_on : Result Sight Refusal → Rule
+passed_on (Err r) = rule r true
+passed_on (Ok s) = rule OnReceiver false
 
 one_on : (satellite receiver : Vec3) → rule OnReceiver (on_receiver (sight_of satellite receiver).range) ≡ passed_on (geometry satellite receiver)
 unfolding geometry
 one_on satellite receiver = go (on_receiver (sight_of satellite receiver).range)
   where
-    go : (b : Bool) → rule OnReceiver b ≡ passed_on (cond b (NotSeen OnReceiver) (SeenAt (sight_of satellite receiver)))
+    go : (b : Bool) → rule OnReceiver b ≡ passed_on (cond b (Err OnReceiver) (Ok (sight_of satellite receiver)))
     go true = refl
     go false = refl
 
@@ -73,19 +70,19 @@ passed_on_lem (o ∷ os) x = rw (one_on o.satellite (vector x), passed_on_lem os
 -- ---- rules that give other numbers
 
 -- what a refusal by a number that these rules do not have says of them
-record Behind (rs : List Rule) (a : Fix) (r : Refusal) : Type 0 where
-  passes : Passed ≡ checked rs
-  is : a ≡ Refused r
+record Behind (rs : List Rule) (a : Result Solution Refusal) (r : Refusal) : Type 0 where
+  passes : (Ok tt) ≡ checked rs
+  is : a ≡ Err r
 
-behind : (rs : List Rule) (a : Fix) (r : Refusal) → every (λ (q : Rule). not (eqb (number_of q.refusal) (number_of r))) rs ≡ true → ruled Refused rs a ≡ Refused r → Behind rs a r
+behind : (rs : List Rule) (a : Result Solution Refusal) (r : Refusal) → every (λ (q : Rule). not (eqb (number_of q.refusal) (number_of r))) rs ≡ true → ruled Err rs a ≡ Err r → Behind rs a r
 unfolding ruled every
 behind [] a r h e = record { passes = refl; is = e }
 behind (q ∷ rs) a r h e = go q.applies refl (eqb (number_of q.refusal) (number_of r)) refl h e (behind rs a r)
   where
     go : (b : Bool) → q.applies ≡ b → (c : Bool) → eqb (number_of q.refusal) (number_of r) ≡ c
         → (not c && every (λ (q : Rule). not (eqb (number_of q.refusal) (number_of r))) rs) ≡ true
-        → cond b (Refused q.refusal) (ruled Refused rs a) ≡ Refused r
-        → (every (λ (q : Rule). not (eqb (number_of q.refusal) (number_of r))) rs ≡ true → ruled Refused rs a ≡ Refused r → Behind rs a r) → Behind (q ∷ rs) a r
+        → cond b (Err q.refusal) (ruled Err rs a) ≡ Err r
+        → (every (λ (q : Rule). not (eqb (number_of q.refusal) (number_of r))) rs ≡ true → ruled Err rs a ≡ Err r → Behind rs a r) → Behind (q ∷ rs) a r
     go b f true g h e ih = absurd (let z : ◌≡◌ {A = ℕ} 0 1 = cc in omega arith)
     go true f false g h e ih =
         let same : q.refusal ≡ r = cc in
@@ -98,13 +95,13 @@ module _ (settings : Settings) (k : Clocks) (os : List Observation) where
   abbrev n : ℕ
   n = 3 + k.count
 
-  end_is : (rows : List Row) (chi : Float) (x : List Float) (a : Fix) → ruled Refused (end_rules n rows (sight_rules os x) chi x) a
-      ≡ cond (not (finite_at x)) (Refused FitFailed) (cond (not (factor.accepted (factor_of (unweighted_matrix n rows)))) (Refused FitFailed)
-      (cond (seen_at os x) (cond (not (finite chi && finite (dilution_of n rows))) (Refused QualityNotFinite) a) (Refused OnReceiver)))
+  end_is : (rows : List Row) (chi : Float) (x : List Float) (a : Result Solution Refusal) → ruled Err (end_rules n rows (sight_rules os x) chi x) a
+      ≡ cond (not (finite_at x)) (Err FitFailed) (cond (not (factor.accepted (factor_of (unweighted_matrix n rows)))) (Err FitFailed)
+      (cond (seen_at os x) (cond (not (finite chi && finite (dilution_of n rows))) (Err QualityNotFinite) a) (Err OnReceiver)))
   unfolding end_rules quality_rules ruled
   end_is rows chi x a =
-      ap (λ (b : Fix). cond (not (finite_at x)) (Refused FitFailed) (cond (not (factor.accepted (factor_of (unweighted_matrix n rows)))) (Refused FitFailed) b))
-      (ruled-append Refused _ (sight_rules os x) _ ∙ sights-are Refused _ os x)
+      ap (λ (b : Result Solution Refusal). cond (not (finite_at x)) (Err FitFailed) (cond (not (factor.accepted (factor_of (unweighted_matrix n rows)))) (Err FitFailed) b))
+      (ruled-append Err _ (sight_rules os x) _ ∙ sights-are Err _ os x)
 
 -- ---- the call
 
@@ -119,7 +116,7 @@ rules_of i = fix_rules i.observations i.guess i.settings
 
 -- its rounds end at the state x, and 10 lets that pass, the pivot of the unweighted matrix included
 pub record Ends (i : Input) (x : List Float) : Type 0 where
-  pub passes : Passed ≡ checked (rules_of i)
+  pub passes : (Ok tt) ≡ checked (rules_of i)
   pub reached : (fit_of i).end ≡ Reached x
   pub placed : finite_at x ≡ true
   pub factored : factor.accepted (factor_of (unweighted_matrix (unknowns i) (last_of i))) ≡ true
@@ -133,13 +130,13 @@ pub record Fourteen (i : Input) : Type 0 where
 
 -- 15: 2 to 9 pass, and a round begins at a state with a row whose range is zero or not finite, or the rounds end in one that 10 lets pass
 pub data Fifteen (i : Input) : Type 0 where
-  InRound : Passed ≡ checked (rules_of i) → every (seen_at (kept_observations i)) (begins (unknowns i) (start i.guess) (rounds_of i) (fit_of i).end) ≡ false → Fifteen i
+  InRound : (Ok tt) ≡ checked (rules_of i) → every (seen_at (kept_observations i)) (begins (unknowns i) (start i.guess) (rounds_of i) (fit_of i).end) ≡ false → Fifteen i
   AtEnd : (x : List Float) → Ends i x → seen_at (kept_observations i) x ≡ false → Fifteen i
 
 -- an accepted fix beside the first one
 pub record AsFirst (i : Input) (s : Solution) : Type 0 where
   pub first : Solution
-  pub accepted : fix_first i ≡ At first
+  pub accepted : fix_first i ≡ Ok first
   pub position : s.position ≡ first.position
   pub used : s.used ≡ first.used
   pub pdop : s.pdop ≡ first.pdop
@@ -151,7 +148,7 @@ pub record AsFirst (i : Input) (s : Solution) : Type 0 where
 
 -- ---- 15, both ways
 
-abbrev found : Input → Fix
+abbrev found : Input → Result Solution Refusal
 found i = found_over i.settings (clocks i) (kept_observations i) i.guess
 
 abbrev chi : Input → List Float → Float
@@ -160,11 +157,11 @@ chi i x = chi_at i.settings (clocks i) (kept_observations i) x
 abbrev rules_at : Input → List Float → List Rule
 rules_at i x = end_rules (unknowns i) (last_of i) (sight_rules (kept_observations i) x) (chi i x) x
 
-abbrev answer_at : Input → List Float → Fix
-answer_at i x = At (solution_at (unknowns i) (last_of i) (chi i x) x)
+abbrev answer_at : Input → List Float → Result Solution Refusal
+answer_at i x = Ok (solution_at (unknowns i) (last_of i) (chi i x) x)
 
 -- what the rounds come to, from where they end
-found_at : (i : Input) → found i ≡ concluded Refused (rules_at i) (answer_at i) (fit_of i).end
+found_at : (i : Input) → found i ≡ concluded Err (rules_at i) (answer_at i) (fit_of i).end
 unfolding found_over rounds_of fit_of
 found_at i = refl
 
@@ -178,18 +175,18 @@ unfolding fix_rules fix_input_rules row_rules every
 others_fourteen i = refl
 
 -- at the state reached, by what 10, 15 and 14 say of it
-abbrev told : Bool → Bool → Bool → Bool → Fix → Fix
+abbrev told : Bool → Bool → Bool → Bool → Result Solution Refusal → Result Solution Refusal
 told placed factored seen figures a =
-    cond (not placed) (Refused FitFailed) (cond (not factored) (Refused FitFailed) (cond seen (cond (not figures) (Refused QualityNotFinite) a) (Refused OnReceiver)))
+    cond (not placed) (Err FitFailed) (cond (not factored) (Err FitFailed) (cond seen (cond (not figures) (Err QualityNotFinite) a) (Err OnReceiver)))
 
-told-fifteen : (a b c d : Bool) (s : Solution) → told a b c d (At s) ≡ Refused OnReceiver → (a ≡ true) × (b ≡ true) × (c ≡ false)
+told-fifteen : (a b c d : Bool) (s : Solution) → told a b c d (Ok s) ≡ Err OnReceiver → (a ≡ true) × (b ≡ true) × (c ≡ false)
 told-fifteen false b c d s h = absurd (let z : ◌≡◌ {A = ℕ} 0 1 = cc in omega arith)
 told-fifteen true false c d s h = absurd (let z : ◌≡◌ {A = ℕ} 0 1 = cc in omega arith)
 told-fifteen true true false d s h = (refl, refl, refl)
 told-fifteen true true true true s h = absurd (let z : ◌≡◌ {A = ℕ} 0 1 = cc in omega arith)
 told-fifteen true true true false s h = absurd (let z : ◌≡◌ {A = ℕ} 0 1 = cc in omega arith)
 
-told_fourteen : (a b c d : Bool) (s : Solution) → told a b c d (At s) ≡ Refused QualityNotFinite → (a ≡ true) × (b ≡ true) × (c ≡ true) × (d ≡ false)
+told_fourteen : (a b c d : Bool) (s : Solution) → told a b c d (Ok s) ≡ Err QualityNotFinite → (a ≡ true) × (b ≡ true) × (c ≡ true) × (d ≡ false)
 told_fourteen false b c d s h = absurd (let z : ◌≡◌ {A = ℕ} 0 1 = cc in omega arith)
 told_fourteen true false c d s h = absurd (let z : ◌≡◌ {A = ℕ} 0 1 = cc in omega arith)
 told_fourteen true true false d s h = absurd (let z : ◌≡◌ {A = ℕ} 0 1 = cc in omega arith)
@@ -197,7 +194,7 @@ told_fourteen true true true true s h = absurd (let z : ◌≡◌ {A = ℕ} 0 1 
 told_fourteen true true true false s h = (refl, refl, refl, refl)
 
 -- the answer at the state x
-told_at : (i : Input) (x : List Float) → ruled Refused (rules_at i x) (answer_at i x)
+told_at : (i : Input) (x : List Float) → ruled Err (rules_at i x) (answer_at i x)
     ≡ told (finite_at x) (factor.accepted (factor_of (unweighted_matrix (unknowns i) (last_of i)))) (seen_at (kept_observations i) x) (finite (chi i x) && finite (dilution_of (unknowns i) (last_of i))) (answer_at i x)
 told_at i x = end_is i.settings (clocks i) (kept_observations i) (last_of i) (chi i x) x (answer_at i x)
 
@@ -215,44 +212,44 @@ unfolding fit_of fit_over
 stopped-is i r h = stopped_by i.settings (clocks i) (kept_observations i) i.settings.rounds (start i.guess) r h
 
 -- A fix is 15 only where 2 to 9 pass, and a round begins with such a row or the rounds end with one in a state that 10 lets pass ..
-pub fifteen-only : (i : Input) → fix_of i ≡ Refused OnReceiver → Fifteen i
+pub fifteen-only : (i : Input) → fix_of i ≡ Err OnReceiver → Fifteen i
 unfolding fix_of
 fifteen-only i e = let b = behind (rules_of i) (found i) OnReceiver (others-fifteen i) e in on (fit_of i).end refl b.passes (sym (found_at i) ∙ b.is)
   where
-    on : (v : End) → (fit_of i).end ≡ v → Passed ≡ checked (rules_of i) → concluded Refused (rules_at i) (answer_at i) v ≡ Refused OnReceiver → Fifteen i
+    on : (v : End) → (fit_of i).end ≡ v → (Ok tt) ≡ checked (rules_of i) → concluded Err (rules_at i) (answer_at i) v ≡ Err OnReceiver → Fifteen i
     on (Stopped r) q p h = let e : r ≡ OnReceiver = cc in InRound p (begun-unseen i (q ∙ ap Stopped e))
     on (Reached x) q p h =
         let t = told-fifteen (finite_at x) (factor.accepted (factor_of (unweighted_matrix (unknowns i) (last_of i)))) (seen_at (kept_observations i) x) (finite (chi i x) && finite (dilution_of (unknowns i) (last_of i))) (solution_at (unknowns i) (last_of i) (chi i x) x) (sym (told_at i x) ∙ h) in
         AtEnd x (record { passes = p; reached = q; placed = t.0; factored = t.1 }) t.2
 
 -- .. and there it is.
-pub fifteen-always : (i : Input) → Fifteen i → fix_of i ≡ Refused OnReceiver
+pub fifteen-always : (i : Input) → Fifteen i → fix_of i ≡ Err OnReceiver
 unfolding fix_of
-fifteen-always i (InRound p h) = passed-by Refused (found i) (rules_of i) p ∙ found_at i ∙ ap (concluded Refused (rules_at i) (answer_at i)) (unseen-begun i h)
+fifteen-always i (InRound p h) = passed-by Err (found i) (rules_of i) p ∙ found_at i ∙ ap (concluded Err (rules_at i) (answer_at i)) (unseen-begun i h)
 fifteen-always i (AtEnd x e h) =
-    passed-by Refused (found i) (rules_of i) e.passes ∙ found_at i ∙ ap (concluded Refused (rules_at i) (answer_at i)) e.reached ∙ told_at i x ∙ rw (e.placed, e.factored, h)
+    passed-by Err (found i) (rules_of i) e.passes ∙ found_at i ∙ ap (concluded Err (rules_at i) (answer_at i)) e.reached ∙ told_at i x ∙ rw (e.placed, e.factored, h)
 
 -- ---- 14, both ways
 
-pub fourteen_only : (i : Input) → fix_of i ≡ Refused QualityNotFinite → Fourteen i
+pub fourteen_only : (i : Input) → fix_of i ≡ Err QualityNotFinite → Fourteen i
 unfolding fix_of
 fourteen_only i e = let b = behind (rules_of i) (found i) QualityNotFinite (others_fourteen i) e in on (fit_of i).end refl b.passes (sym (found_at i) ∙ b.is)
   where
-    never : (r : Refusal) → (r ≡ OnReceiver) ⊎ (r ≡ FitFailed) → Refused r ≡ Refused QualityNotFinite → ⊥
+    never : (r : Refusal) → (r ≡ OnReceiver) ⊎ (r ≡ FitFailed) → ◌≡◌ {A = Result Solution Refusal} (Err r) (Err QualityNotFinite) → ⊥
     never r (inl e) h = let z : ◌≡◌ {A = ℕ} 0 1 = cc in omega arith
     never r (inr e) h = let z : ◌≡◌ {A = ℕ} 0 1 = cc in omega arith
 
-    on : (v : End) → (fit_of i).end ≡ v → Passed ≡ checked (rules_of i) → concluded Refused (rules_at i) (answer_at i) v ≡ Refused QualityNotFinite → Fourteen i
+    on : (v : End) → (fit_of i).end ≡ v → (Ok tt) ≡ checked (rules_of i) → concluded Err (rules_at i) (answer_at i) v ≡ Err QualityNotFinite → Fourteen i
     on (Stopped r) q p h = absurd (never r (stopped-is i r q) h)
     on (Reached x) q p h =
         let t = told_fourteen (finite_at x) (factor.accepted (factor_of (unweighted_matrix (unknowns i) (last_of i)))) (seen_at (kept_observations i) x) (finite (chi i x) && finite (dilution_of (unknowns i) (last_of i))) (solution_at (unknowns i) (last_of i) (chi i x) x) (sym (told_at i x) ∙ h) in
         record { x = x; ends = record { passes = p; reached = q; placed = t.0; factored = t.1 }; seen = t.2; not_finite = t.3 }
 
-pub fourteen_always : (i : Input) → Fourteen i → fix_of i ≡ Refused QualityNotFinite
+pub fourteen_always : (i : Input) → Fourteen i → fix_of i ≡ Err QualityNotFinite
 unfolding fix_of
 fourteen_always i f =
     let e = f.ends in
-    passed-by Refused (found i) (rules_of i) e.passes ∙ found_at i ∙ ap (concluded Refused (rules_at i) (answer_at i)) e.reached ∙ told_at i f.x ∙ rw (e.placed, e.factored, f.seen, f.not_finite)
+    passed-by Err (found i) (rules_of i) e.passes ∙ found_at i ∙ ap (concluded Err (rules_at i) (answer_at i)) e.reached ∙ told_at i f.x ∙ rw (e.placed, e.factored, f.seen, f.not_finite)
 
 -- ---- before 15 there was 14: a range that is not finite at a position that 10 lets pass
 
@@ -291,12 +288,12 @@ module _ (settings : Settings) (k : Clocks) (x : List Float) where
 abbrev last_before : Input → List Row
 last_before i = last_rows [] (fit_before i.settings (clocks i) (kept_observations i) i.guess).rounds
 
-pub range_fourteen : (i : Input) (x : List Float) → Passed ≡ checked (rules_of i) → (fit_before i.settings (clocks i) (kept_observations i) i.guess).end ≡ Reached x → finite_at x ≡ true
-    → factor.accepted (factor_of (unweighted_matrix (unknowns i) (last_before i))) ≡ true → every (λ (o : Observation). finite (sight_at x o).range) (kept_observations i) ≡ false → fix_before i ≡ Refused QualityNotFinite
+pub range_fourteen : (i : Input) (x : List Float) → (Ok tt) ≡ checked (rules_of i) → (fit_before i.settings (clocks i) (kept_observations i) i.guess).end ≡ Reached x → finite_at x ≡ true
+    → factor.accepted (factor_of (unweighted_matrix (unknowns i) (last_before i))) ≡ true → every (λ (o : Observation). finite (sight_at x o).range) (kept_observations i) ≡ false → fix_before i ≡ Err QualityNotFinite
 unfolding ruled
 range_fourteen i x p e a b h =
-    passed-by Refused (found_before i.settings (clocks i) (kept_observations i) i.guess) (rules_of i) p
-    ∙ ap (concluded Refused (rules_before i.settings (clocks i) (kept_observations i) (last_before i)) (solution_before i.settings (clocks i) (kept_observations i) (last_before i))) e
+    passed-by Err (found_before i.settings (clocks i) (kept_observations i) i.guess) (rules_of i) p
+    ∙ ap (concluded Err (rules_before i.settings (clocks i) (kept_observations i) (last_before i)) (solution_before i.settings (clocks i) (kept_observations i) (last_before i))) e
     ∙ rw (a, b, infinite)
   where
     infinite : finite (chi i x) ≡ false
@@ -309,19 +306,19 @@ range_fourteen i x p e a b h =
 -- ---- an accepted fix
 
 -- what the first one is, from what it became
-record Kept (a : Fix) (s : Solution) : Type 0 where
+record Kept (a : Result Solution Refusal) (s : Solution) : Type 0 where
   first : Solution
-  is : a ≡ At first
+  is : a ≡ Ok first
   position : s.position ≡ first.position
   used : s.used ≡ first.used
   pdop : s.pdop ≡ first.pdop
 
-kept_by : {a b : Fix} (s : Solution) → Became a b → b ≡ At s → Kept a s
+kept_by : {a b : Result Solution Refusal} (s : Solution) → Became a b → b ≡ Ok s → Kept a s
 unfolding ruled
 kept_by s (Same r) e = absurd (let z : ◌≡◌ {A = ℕ} 0 1 = cc in omega arith)
 kept_by s (Anew t c) e = go (not (finite c && finite t.pdop)) e
   where
-    go : (b : Bool) → cond b (Refused QualityNotFinite) (At (with_chi c t)) ≡ At s → Kept (At t) s
+    go : (b : Bool) → cond b (Err QualityNotFinite) (Ok (with_chi c t)) ≡ Ok s → Kept (Ok t) s
     go true e = absurd (let z : ◌≡◌ {A = ℕ} 0 1 = cc in omega arith)
     go false e =
         let q : with_chi c t ≡ s = cc in
@@ -329,7 +326,7 @@ kept_by s (Anew t c) e = go (not (finite c && finite t.pdop)) e
 
 -- An accepted fix has the position, the count and the pdop of the first fix of that input, which is accepted, and chi of the residuals at the position that it
 -- gives out, with the final clocks.
-pub as_first : (i : Input) (s : Solution) → fix_of i ≡ At s → AsFirst i s
+pub as_first : (i : Input) (s : Solution) → fix_of i ≡ Ok s → AsFirst i s
 as_first i s e =
     let k = go (fifteen-or-before i) in
     let f = finished-at i s e in
@@ -346,9 +343,9 @@ as_first i s e =
       chi-is = ap (λ (z : Solution). z.chi) (sym q);
     }
   where
-    solved-by : {a b : Solution} → At a ≡ At b → a ≡ b
+    solved-by : {a b : Solution} → ◌≡◌ {A = Result Solution Refusal} (Ok a) (Ok b) → a ≡ b
     solved-by h = cc
 
-    go : (fix_of i ≡ Refused OnReceiver) ⊎ (fix_of i ≡ fix_before i) → Kept (fix_first i) s
+    go : (fix_of i ≡ Err OnReceiver) ⊎ (fix_of i ≡ fix_before i) → Kept (fix_first i) s
     go (inl h) = absurd (let z : ◌≡◌ {A = ℕ} 0 1 = cc in omega arith)
     go (inr h) = kept_by s (became i) (sym h ∙ e)

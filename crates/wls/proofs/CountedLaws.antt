@@ -1,4 +1,5 @@
 -- A fix looks at the counted observations alone, and refuses every count of rounds above 50 alike. Assumes nothing.
+use Rattle.std.specs.Prelude.{Err}
 use mathlib.Core.Path.{◌≡◌}
 use mathlib.Core.Bool.{false, cond, and-false}
 use Prim.Native.Nat.{◌<◌}
@@ -14,7 +15,6 @@ use Rattle.records.specs.declared.record.Observations.{Observations}
 use Rattle.wls.specs.declared.fix.Settings.{Settings as FixSettings}
 use Rattle.wls.specs.Fix as fix
 use Rattle.wls.specs.Fix.{fix_of}
-use Rattle.wls.specs.declared.fix.Fix.TheVariants.{Refused as FixRefused}
 
 module _ (o p : Observations) (guess : Vec3) (settings : FixSettings) (m : o.count ≡ p.count) (e : counted_observations o ≡ counted_observations p) where
   fix-rules-counted : fix_rules o guess settings ≡ fix_rules p guess settings
@@ -29,6 +29,6 @@ fix-many : (s : FixSettings) → 50 < s.rounds → fix_settings_pass s ≡ false
 unfolding fix_settings_pass
 fix-many s h = rw (lt-ltb 50 s.rounds h, and-false)
 
-pub fix-many-rounds : (i : fix.Input) → 50 < i.settings.rounds → fix_of i ≡ cond (ltb 64 i.observations.count) (FixRefused TooMany) (FixRefused SettingOutOfRange)
+pub fix-many-rounds : (i : fix.Input) → 50 < i.settings.rounds → fix_of i ≡ cond (ltb 64 i.observations.count) (Err TooMany) (Err SettingOutOfRange)
 unfolding fix_of fix_rules fix_input_rules ruled
 fix-many-rounds i h = rw (fix-many i.settings h)

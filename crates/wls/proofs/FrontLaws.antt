@@ -1,4 +1,5 @@
 -- The rules of a fix before its rounds, tested in parts. Assumes nothing.
+use Rattle.std.specs.Prelude.{Ok, Err}
 use mathlib.Core.Path.{◌≡◌, sym, ap, ◌∙◌, subst}
 use mathlib.Core.List.{List}
 use mathlib.Core.Bool.{true, not, ◌&&◌}
@@ -16,7 +17,6 @@ use Rattle.estimate_rounds.specs.Rules.{row_rules}
 use Rattle.wls.specs.Valid.{fix_settings_pass, fix_input_rules}
 use Rattle.records.specs.declared.record.Observations.{Observations}
 use Rattle.wls.specs.declared.fix.Settings.{Settings as FixSettings}
-use Rattle.estimate_rounds.specs.declared.rules.Check.TheVariants.{Refused, Passed}
 use lib.ListN.{length}
 use Rattle.records.specs.Record.{counted_observations}
 use Rattle.clocks.specs.Clocks.{clocks_of}
@@ -27,7 +27,7 @@ use Rattle.records.specs.declared.record.Observation.{Observation}
 use Rattle.numeric.proofs.RulesLaws.{ruled-append}
 use Rattle.estimate_rounds.proofs.RulesLaws.{checked, refused-by, passed-by, passed-of, append-passed, append-first, head_passed, Enough, rows-passed}
 
-pub observations-fit : (observations : Observations) (guess : Vec3) (settings : FixSettings) → Passed ≡ checked (fix_input_rules observations guess settings)
+pub observations-fit : (observations : Observations) (guess : Vec3) (settings : FixSettings) → (Ok tt) ≡ checked (fix_input_rules observations guess settings)
     → observations.count ≤ 64
 unfolding fix_input_rules
 observations-fit observations guess settings e = ltb-false 64 observations.count (head_passed _ _ e).0
@@ -37,7 +37,7 @@ above_zero : (n : ℕ) → T (not (eqb n 0)) → 0 < n
 above_zero zero h = absurd h
 above_zero (suc n) h = omega arith
 
-pub some-rounds : (observations : Observations) (guess : Vec3) (settings : FixSettings) → Passed ≡ checked (fix_input_rules observations guess settings) → 0 < settings.rounds
+pub some-rounds : (observations : Observations) (guess : Vec3) (settings : FixSettings) → (Ok tt) ≡ checked (fix_input_rules observations guess settings) → 0 < settings.rounds
 unfolding fix_input_rules fix_settings_pass
 some-rounds observations guess settings e =
     let pass : fix_settings_pass settings ≡ true = not-false (fix_settings_pass settings) (head_passed _ _ (head_passed _ _ e).1).0 in
@@ -48,14 +48,14 @@ module _ {A : Type 0} (f : Refusal → A) (a : A) (observations : Observations) 
   abbrev fix : A
   fix = ruled f (fix_rules observations guess settings) a
 
-  pub fix-input-refused : {r : Refusal} → Refused r ≡ checked (fix_input_rules observations guess settings) → f r ≡ fix
+  pub fix-input-refused : {r : Refusal} → Err r ≡ checked (fix_input_rules observations guess settings) → f r ≡ fix
   unfolding fix_rules
   fix-input-refused e = refused-by f _ _ e ∙ sym (ruled-append f _ _ _)
 
   abbrev rows : List Observation
   rows = fix_rows observations settings
 
-  module _ (passed : Passed ≡ checked (fix_input_rules observations guess settings)) (q : Observations) (k : Clocks) (left : Holds q.count q.observation rows)
+  module _ (passed : (Ok tt) ≡ checked (fix_input_rules observations guess settings)) (q : Observations) (k : Clocks) (left : Holds q.count q.observation rows)
       (clocks : k ≡ clocks_of (observedConstellations (counted_observations q))) where
     pub fix-clocks : k ≡ clocks_of (observedConstellations rows)
     fix-clocks = clocks ∙ ap (λ (l : List Observation). clocks_of (observedConstellations l)) left.all
@@ -67,10 +67,10 @@ module _ {A : Type 0} (f : Refusal → A) (a : A) (observations : Observations) 
     unfolding fix_rules
     fix_is = ruled-append f _ _ _ ∙ passed-by f _ _ passed ∙ (rw (left.count, fix-slots))
 
-    pub fix-counts-refused : {r : Refusal} → Refused r ≡ checked (row_rules q.count k.count) → f r ≡ fix
+    pub fix-counts-refused : {r : Refusal} → Err r ≡ checked (row_rules q.count k.count) → f r ≡ fix
     fix-counts-refused e = refused-by f _ _ e ∙ sym fix_is
 
-    pub fix-counts-kept : Passed ≡ checked (row_rules q.count k.count) → a ≡ fix
+    pub fix-counts-kept : (Ok tt) ≡ checked (row_rules q.count k.count) → a ≡ fix
     fix-counts-kept e = sym (fix_is ∙ passed-by f _ _ e)
 
   pub fix-enough : {b : A} → fix ≡ b → ((r : Refusal) → f r ≡ b → ⊥) → Enough (length rows) (clocks_of (observedConstellations rows)).count

@@ -1,5 +1,6 @@
 -- THE LAW of request (iii) for a fix, over the fix from before request (v): a refusal stays, and a fix keeps position, count and pdop; its chi is another, and where
 -- chi or pdop is not finite it is 14. Assumes nothing.
+use Rattle.std.specs.Prelude.{Result, Ok, Err}
 use mathlib.Core.Bool.{Bool, true, false, not, cond, ◌&&◌}
 use mathlib.Core.List.{List, [], ◌∷◌}
 use Prim.Native.Nat.{ℕ, ◌+◌}
@@ -20,8 +21,6 @@ use Rattle.wls.specs.Fix.{Input, kept_observations, clocks, chi_at, solution_at}
 use Rattle.quality.specs.Quality.{unweighted_matrix, dilution_of, chi_of}
 use Rattle.wls.specs.declared.fix.Settings.{Settings}
 use Rattle.wls.specs.declared.fix.Solution.{Solution}
-use Rattle.wls.specs.declared.fix.Fix.{Fix}
-use Rattle.wls.specs.declared.fix.Fix.TheVariants.{Refused, At}
 use Rattle.wls.specs.Before.{fit_before, ten_rules, answer_first, rules_before, solution_before, fix_first, fix_before}
 
 -- 14, of the figures
@@ -32,33 +31,33 @@ abbrev pub with_chi : Float → Solution → Solution
 with_chi chi s = record { position = s.position; used = s.used; chi = chi; pdop = s.pdop }
 
 -- what an answer from before the request became
-pub data Became : Fix → Fix → Type 0 where
-  Same : (r : Refusal) → Became (Refused r) (Refused r)
-  Anew : (s : Solution) (chi : Float) → Became (At s) (ruled Refused (figure_rules chi s.pdop) (At (with_chi chi s)))
+pub data Became : Result Solution Refusal → Result Solution Refusal → Type 0 where
+  Same : (r : Refusal) → Became (Err r) (Err r)
+  Anew : (s : Solution) (chi : Float) → Became (Ok s) (ruled Err (figure_rules chi s.pdop) (Ok (with_chi chi s)))
 
 -- ---- at the end of the rounds
 module _ (settings : Settings) (k : Clocks) (os : List Observation) (guess : Vec3) where
   abbrev n : ℕ
   n = 3 + k.count
 
-  end-became : (rows : List Row) (e : End) → Became (concluded Refused (ten_rules n rows) (answer_first n rows) e) (concluded Refused (rules_before settings k os rows) (solution_before settings k os rows) e)
+  end-became : (rows : List Row) (e : End) → Became (concluded Err (ten_rules n rows) (answer_first n rows) e) (concluded Err (rules_before settings k os rows) (solution_before settings k os rows) e)
   unfolding ruled
   end-became rows (Stopped r) = Same r
   end-became rows (Reached x) = go (not (finite_at x)) (not (factor.accepted (factor_of (unweighted_matrix n rows))))
     where
-      go : (a b : Bool) → Became (cond a (Refused FitFailed) (cond b (Refused FitFailed) (answer_first n rows x)))
-          (cond a (Refused FitFailed) (cond b (Refused FitFailed) (ruled Refused (figure_rules (chi_at settings k os x) (dilution_of n rows)) (solution_before settings k os rows x))))
+      go : (a b : Bool) → Became (cond a (Err FitFailed) (cond b (Err FitFailed) (answer_first n rows x)))
+          (cond a (Err FitFailed) (cond b (Err FitFailed) (ruled Err (figure_rules (chi_at settings k os x) (dilution_of n rows)) (solution_before settings k os rows x))))
       go true b = Same FitFailed
       go false true = Same FitFailed
       go false false = Anew (solution_at n rows (chi_of n rows) x) (chi_at settings k os x)
 
 -- rules that come first refuse both alike
-behind : (rs : List Rule) {a b : Fix} → Became a b → Became (ruled Refused rs a) (ruled Refused rs b)
+behind : (rs : List Rule) {a b : Result Solution Refusal} → Became a b → Became (ruled Err rs a) (ruled Err rs b)
 unfolding ruled
 behind [] h = h
 behind (r ∷ rs) {a} {b} h = go r.applies (behind rs h)
   where
-    go : (c : Bool) → Became (ruled Refused rs a) (ruled Refused rs b) → Became (cond c (Refused r.refusal) (ruled Refused rs a)) (cond c (Refused r.refusal) (ruled Refused rs b))
+    go : (c : Bool) → Became (ruled Err rs a) (ruled Err rs b) → Became (cond c (Err r.refusal) (ruled Err rs a)) (cond c (Err r.refusal) (ruled Err rs b))
     go true h = Same r.refusal
     go false h = h
 

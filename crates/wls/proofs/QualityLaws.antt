@@ -1,4 +1,7 @@
 -- What a fit says of itself, as the code works it out from the rows. Assumes nothing.
+use Rattle.numeric.specs.Refusal.{answer_number}
+use Rattle.std.specs.Prelude.{Result}
+use Rattle.numeric.specs.declared.refusal.Refusal.{Refusal}
 use mathlib.Core.Path.{◌≡◌, refl, sym, ap, ap₂, ◌∙◌}
 use Prim.Native.Nat.{ℕ, zero, suc, ◌+◌, ◌≤◌, ◌<◌}
 use native.Mathlib.Omega.{arith}
@@ -25,13 +28,12 @@ use Rattle.records.proofs.RecordLaws.{blank_observation}
 use Rattle.quality.specs.Quality.{freedom_of, chi_of}
 use Rattle.quality.proofs.QualityLaws.{scaled}
 use Rattle.wls.specs.Fix.{sigma_of, sight_at, residual_at, row_at, chi_at}
-use Rattle.wls.specs.Steps.{chi_found, chi_number, chi_floats, ChiAnswered}
-use Rattle.wls.specs.declared.chi.Chi.{Chi}
+use Rattle.wls.specs.Steps.{chi_found, chi_floats, ChiAnswered}
 use Rattle.wls.specs.declared.fix.Settings.{Settings}
 
 -- number and value follow the answer
-pub chi-answered : {settings : Settings} {k : Clocks} {os : List Observation} {x : List Float} {r : Chi} → r ≡ chi_found settings k os x → ChiAnswered settings k os x r
-chi-answered e = record { answer = e; number_is = ap chi_number e; floats-are = ap chi_floats e }
+pub chi-answered : {settings : Settings} {k : Clocks} {os : List Observation} {x : List Float} {r : Result Float Refusal} → r ≡ chi_found settings k os x → ChiAnswered settings k os x r
+chi-answered e = record { answer = e; number_is = ap answer_number e; floats-are = ap chi_floats e }
 
 -- ---- the reduced chi-squared, of the observations' rows
 

@@ -1,20 +1,17 @@
 -- The columns of a round of a fix, made one row after the other. Assumes nothing.
+use Rattle.std.specs.Prelude.{Result, Ok, Err}
 use mathlib.Core.Path.{◌≡◌, sym, ap, ap₂, ◌∙◌, subst}
 use Prim.Native.Nat.{ℕ, ◌+◌, ◌≤◌, ◌<◌}
 use native.Mathlib.Omega.{arith}
-use mathlib.Core.Bool.{Bool, true, false}
 use mathlib.Core.List.{List}
-use lib.ListN.{length, get_or, set, take}
+use lib.ListN.{length, get_or, set}
 use lib.Ieee.{Float}
 use Rattle.exact.specs.Float.{◌⊕◌, ◌⊖◌}
 use Rattle.cholesky.specs.Factor.{at}
 use Rattle.numeric.specs.Order.{pattern_of}
 use Rattle.numeric.specs.Sight.{geometry}
 use Rattle.numeric.specs.declared.refusal.Refusal.{Refusal}
-use Rattle.numeric.specs.declared.refusal.Refusal.TheVariants.{OnReceiver}
 use Rattle.numeric.specs.declared.sight.Sight.{Sight}
-use Rattle.numeric.specs.declared.sight.Sighting.{Sighting}
-use Rattle.numeric.specs.declared.sight.Sighting.TheVariants.{Refused as NotSeen, Seen}
 use Rattle.numeric.proofs.SightLaws.{seen_by}
 use Rattle.clocks.specs.Clocks.{slot}
 use Rattle.clocks.specs.declared.clocks.Clocks.{Clocks}
@@ -22,10 +19,9 @@ use Rattle.normal_equations.proofs.ColumnLaws.{Column, column-start, column-next
 use Rattle.records.specs.declared.record.Observation.{Observation}
 use Rattle.records.proofs.RecordLaws.{blank_observation}
 use Rattle.estimate_rounds.specs.Rounds.{vector}
-use Rattle.estimate_rounds.specs.declared.rules.Check.TheVariants.{Refused as Stops, Passed}
-use Rattle.estimate_rounds.proofs.RulesLaws.{checked}
-use Rattle.wls.specs.Fix.{sight_at, residual_at, sight_rules}
-use Rattle.wls.specs.Steps.{Long, Rowed}
+use Rattle.wls.specs.Fix.{sight_at, residual_at}
+use Rattle.wls.specs.Steps.{Rowed}
+use Rattle.normal_equations.specs.declared.columns.Table.{Table}
 use Rattle.wls.proofs.SightLaws.{Sights, sights-start, sights-end, sights-next, sights-stop}
 
 -- the first j of n rows at the state s: 15 lets each of them pass, and they stand in the columns
@@ -38,26 +34,26 @@ pub record RowsTo (k : Clocks) (n : ℕ) (os : List Observation) (s : List Float
   pub residuals : Column (residual_at k s) os j residual
 
 module _ (k : Clocks) (n : ℕ) (os : List Observation) (s : List Float) (fits : n ≤ length os) (few : n ≤ 64) where
-  pub rows_start : {x y z : List Float} {clock residual : List ℕ} → Long x y z clock residual → RowsTo k n os s 0 x y z clock residual
-  rows_start {x} {y} {z} {clock} {residual} h =
+  pub rows_start : (t : Table) → length t.x ≡ 64 → length t.y ≡ 64 → length t.z ≡ 64 → length t.clock ≡ 64 → length t.residual ≡ 64 → RowsTo k n os s 0 t.x t.y t.z t.clock t.residual
+  rows_start t a b c d e =
       record {
         sights = sights-start os n s;
-        xs = column-start _ os x h.x-long;
-        ys = column-start _ os y h.y-long;
-        zs = column-start _ os z h.z-long;
-        clocks = column-start _ os clock h.clock-long;
-        residuals = column-start _ os residual h.residual-long;
+        xs = column-start _ os t.x a;
+        ys = column-start _ os t.y b;
+        zs = column-start _ os t.z c;
+        clocks = column-start _ os t.clock d;
+        residuals = column-start _ os t.residual e;
       }
 
-  module _ (j : ℕ) (x y z : List Float) (clock residual : List ℕ) (h : RowsTo k n os s j x y z clock residual) where
-    pub rows_end : j ≡ n → Rowed k n os s true x y z clock residual
+  module _ (j : ℕ) (t : Table) (h : RowsTo k n os s j t.x t.y t.z t.clock t.residual) where
+    pub rows_end : j ≡ n → Rowed k n os s (Ok tt) t
     rows_end e =
-        let all = subst (λ (m : ℕ). RowsTo k n os s m x y z clock residual) e h in
+        let all = subst (λ (m : ℕ). RowsTo k n os s m t.x t.y t.z t.clock t.residual) e h in
         record {
           answer = sights-end os n s fits j h.sights (omega arith);
           rows = λ _.
               record {
-                long = record { x-long = h.xs.long; y-long = h.ys.long; z-long = h.zs.long; clock-long = h.clocks.long; residual-long = h.residuals.long };
+                long = h.residuals.long;
                 xs = all.xs.so_far;
                 ys = all.ys.so_far;
                 zs = all.zs.so_far;
@@ -66,8 +62,8 @@ module _ (k : Clocks) (n : ℕ) (os : List Observation) (s : List Float) (fits :
               };
         }
 
-    module _ (l : j < n) {r : Sighting} (seen : r ≡ geometry (get_or os j blank_observation).satellite (vector s)) where
-      pub rows-stop : {q : Refusal} → r ≡ NotSeen q → Rowed k n os s false x y z clock residual
+    module _ (l : j < n) {r : Result Sight Refusal} (seen : r ≡ geometry (get_or os j blank_observation).satellite (vector s)) where
+      pub rows-stop : {q : Refusal} → r ≡ Err q → Rowed k n os s (Err q) t
       rows-stop e =
           record {
             answer = sights-stop os n s fits j h.sights l seen e;
@@ -75,8 +71,8 @@ module _ (k : Clocks) (n : ℕ) (os : List Observation) (s : List Float) (fits :
           }
 
       -- one row more, of the sight g, the clock q with the state v there, and the residual p
-      pub rows_next : {g : Sight} {q p : ℕ} {v : Float} → r ≡ Seen g → q ≡ slot k (get_or os j blank_observation).constellation → v ≡ at s q → p ≡ pattern_of ((get_or os j blank_observation).pseudorange ⊖ (g.range ⊕ v))
-          → RowsTo k n os s (j + 1) (set x j g.x) (set y j g.y) (set z j g.z) (set clock j q) (set residual j p)
+      pub rows_next : {g : Sight} {q p : ℕ} {v : Float} → r ≡ Ok g → q ≡ slot k (get_or os j blank_observation).constellation → v ≡ at s q → p ≡ pattern_of ((get_or os j blank_observation).pseudorange ⊖ (g.range ⊕ v))
+          → RowsTo k n os s (j + 1) (set t.x j g.x) (set t.y j g.y) (set t.z j g.z) (set t.clock j q) (set t.residual j p)
       unfolding residual_at
       rows_next {g} {q} {p} {v} e q-is v-is p-is =
           let i = (seen_by _ _ (sym seen ∙ e)).sight in
@@ -86,17 +82,9 @@ module _ (k : Clocks) (n : ℕ) (os : List Observation) (s : List Float) (fits :
           let value = p-is ∙ ap₂ (λ (a b : Float). pattern_of (o.pseudorange ⊖ (a ⊕ b))) (ap (λ (g : Sight). g.range) i) (v-is ∙ ap (at s) q-is) in
           record {
             sights = sights-next os n s fits j h.sights l seen e;
-            xs = column-next _ os j x blank_observation g.x room within (ap (λ (g : Sight). g.x) i) h.xs;
-            ys = column-next _ os j y blank_observation g.y room within (ap (λ (g : Sight). g.y) i) h.ys;
-            zs = column-next _ os j z blank_observation g.z room within (ap (λ (g : Sight). g.z) i) h.zs;
-            clocks = column-next _ os j clock blank_observation q room within q-is h.clocks;
-            residuals = column-next _ os j residual blank_observation p room within value h.residuals;
+            xs = column-next _ os j t.x blank_observation g.x room within (ap (λ (g : Sight). g.x) i) h.xs;
+            ys = column-next _ os j t.y blank_observation g.y room within (ap (λ (g : Sight). g.y) i) h.ys;
+            zs = column-next _ os j t.z blank_observation g.z room within (ap (λ (g : Sight). g.z) i) h.zs;
+            clocks = column-next _ os j t.clock blank_observation q room within q-is h.clocks;
+            residuals = column-next _ os j t.residual blank_observation p room within value h.residuals;
           }
-
--- what the answer says of 15
-module _ {k : Clocks} {n : ℕ} {os : List Observation} {s : List Float} {r : Bool} {x y z : List Float} {clock residual : List ℕ} (h : Rowed k n os s r x y z clock residual) where
-  pub rowed_passed : r ≡ true → Passed ≡ checked (sight_rules (take n os) s)
-  rowed_passed e = rw e at h.answer
-
-  pub rowed_refused : r ≡ false → Stops OnReceiver ≡ checked (sight_rules (take n os) s)
-  rowed_refused e = rw e at h.answer

@@ -1,7 +1,8 @@
 -- Rule 15 of the rows of a fit, one row after the other, and a round that it refuses or lets pass. Assumes nothing.
-use mathlib.Core.Path.{◌≡◌, refl, sym, ◌∙◌, subst}
+use Rattle.std.specs.Prelude.{Result, Ok, Err}
+use mathlib.Core.Path.{◌≡◌, refl, sym, ap, ◌∙◌}
 use mathlib.Core.Bool.{cond}
-use mathlib.Core.List.{List, []}
+use mathlib.Core.List.{List}
 use Prim.Native.Nat.{ℕ, ◌+◌, ◌≤◌, ◌<◌}
 use native.Mathlib.Omega.{arith}
 use lib.ListN.{length, get_or, take, drop}
@@ -11,18 +12,14 @@ use Rattle.numeric.specs.Sight.{on_receiver, geometry}
 use Rattle.numeric.specs.declared.refusal.Refusal.{Refusal}
 use Rattle.numeric.specs.declared.refusal.Refusal.TheVariants.{OnReceiver}
 use Rattle.numeric.specs.declared.sight.Sight.{Sight}
-use Rattle.numeric.specs.declared.sight.Sighting.{Sighting}
-use Rattle.numeric.specs.declared.sight.Sighting.TheVariants.{Refused as NotSeen, Seen}
 use Rattle.numeric.proofs.SightLaws.{seen_by, refused-by as not-seen-by}
 use Rattle.robust.specs.Round.{Round, RoundOutcome, Refused as NoRound, Solved}
-use Rattle.robust.specs.Steps.{Solving}
-use Rattle.robust.specs.declared.round.Stepping.TheVariants as Stepping
+use Rattle.robust.specs.Steps.{stepping_of}
 use Rattle.clocks.specs.declared.clocks.Clocks.{Clocks}
 use Rattle.records.specs.declared.record.Observation.{Observation}
 use Rattle.records.proofs.RecordLaws.{blank_observation}
 use Rattle.numeric.specs.Rules.{ruled}
 use Rattle.estimate_rounds.specs.Rounds.{vector}
-use Rattle.estimate_rounds.specs.declared.rules.Check.TheVariants.{Refused as Stops, Passed}
 use Rattle.estimate_rounds.proofs.RulesLaws.{checked, refused-by, passed-by, passed-of}
 use Rattle.wls.specs.Fix.{sight_at, sight_rules, round_at}
 use Rattle.wls.specs.Before.{bare}
@@ -37,7 +34,7 @@ module _ (os : List Observation) (n : ℕ) (s : List Float) where
   sights-start = record { left = refl }
 
   module _ (fits : n ≤ length os) (j : ℕ) (h : Sights os n s j) where
-    pub sights-end : n ≤ j → Passed ≡ checked (sight_rules (take n os) s)
+    pub sights-end : n ≤ j → (Ok tt) ≡ checked (sight_rules (take n os) s)
     unfolding sight_rules ruled
     sights-end l = rw (left_end os n fits j l) at h.left
 
@@ -45,26 +42,26 @@ module _ (os : List Observation) (n : ℕ) (s : List Float) where
       abbrev here : Observation
       here = get_or os j blank_observation
 
-      turn : cond (on_receiver (sight_at s here).range) (Stops OnReceiver) (checked (sight_rules (drop (j + 1) (take n os)) s)) ≡ checked (sight_rules (take n os) s)
+      turn : cond (on_receiver (sight_at s here).range) (Err OnReceiver) (checked (sight_rules (drop (j + 1) (take n os)) s)) ≡ checked (sight_rules (take n os) s)
       unfolding sight_rules ruled
       turn = rw (left_at os n fits j blank_observation l) at h.left
 
-      pub sights-next : {r : Sighting} {g : Sight} → r ≡ geometry here.satellite (vector s) → r ≡ Seen g → Sights os n s (j + 1)
+      pub sights-next : {r : Result Sight Refusal} {g : Sight} → r ≡ geometry here.satellite (vector s) → r ≡ Ok g → Sights os n s (j + 1)
       sights-next e q = record { left = rw (seen_by here.satellite (vector s) (sym e ∙ q)).range at turn }
 
-      pub sights-stop : {r : Sighting} {q : Refusal} → r ≡ geometry here.satellite (vector s) → r ≡ NotSeen q → Stops OnReceiver ≡ checked (sight_rules (take n os) s)
-      sights-stop e q = rw (not-seen-by here.satellite (vector s) (sym e ∙ q)).1 at turn
+      pub sights-stop : {r : Result Sight Refusal} {q : Refusal} → r ≡ geometry here.satellite (vector s) → r ≡ Err q → Err q ≡ checked (sight_rules (take n os) s)
+      sights-stop e q = let n = not-seen-by here.satellite (vector s) (sym e ∙ q) in rw n.0 (rw n.1 at turn)
 
 -- ---- the round at the state x
 module _ (settings : Settings) (k : Clocks) (os : List Observation) (x : List Float) where
   abbrev plain : RoundOutcome
   plain = bare settings k os x
 
-  pub round-refused : {r : Refusal} → Stops r ≡ checked (sight_rules os x) → Solving (round_at settings k os x) (Stepping.Refused r) [] []
+  pub round-refused : {r : Refusal} → Err r ≡ checked (sight_rules os x) → Err r ≡ stepping_of (round_at settings k os x)
   unfolding round_at
-  round-refused {r} e = subst (λ (o : RoundOutcome). Solving o (Stepping.Refused r) [] []) (refused-by NoRound plain (sight_rules os x) e) (record { answer-is = refl; step_is = refl })
+  round-refused {r} e = ap stepping_of (refused-by NoRound plain (sight_rules os x) e)
 
-  pub round-passed : Passed ≡ checked (sight_rules os x) → round_at settings k os x ≡ plain
+  pub round-passed : (Ok tt) ≡ checked (sight_rules os x) → round_at settings k os x ≡ plain
   unfolding round_at
   round-passed e = passed-by NoRound plain (sight_rules os x) e
 

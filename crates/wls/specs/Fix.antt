@@ -1,4 +1,7 @@
 -- The position of a receiver from one epoch (docs/SCOPE.md, "Fix"; wls.rs): its rounds, its quality and its answer. Definitions only.
+use Rattle.numeric.specs.Refusal.{answer_number}
+use Rattle.std.specs.Prelude.{Result, Ok, Err}
+use Rattle.numeric.specs.declared.refusal.Refusal.{Refusal}
 use Rattle.std.specs.Prelude.{◌≡◌, ℕ, ◌+◌, ◌<◌, true, not, ◌&&◌, List, [], ◌∷◌, ◌++◌, map, length, replicate, T, Float}
 use Rattle.std.specs.Float.Ieee.Scale.{finite}
 use Rattle.exact.specs.Float.{◌⊕◌, ◌⊖◌, +0, decimal}
@@ -6,7 +9,6 @@ use Rattle.lists.specs.Walk.{every}
 use Rattle.cholesky.specs.Factor.{at}
 use Rattle.numeric.specs.Order.{pattern_of}
 use Rattle.numeric.specs.Sight.{sight_of, on_receiver}
-use Rattle.numeric.specs.Refusal.{number_of}
 use Rattle.numeric.specs.declared.sight.Sight.{Sight}
 use Rattle.numeric.specs.declared.vec3.Vec3.{Vec3}
 use Rattle.numeric.specs.declared.refusal.Refusal.TheVariants.{FitFailed, QualityNotFinite, OnReceiver}
@@ -25,10 +27,6 @@ use Rattle.wls.specs.declared.fix.Settings.{Settings}
 use Rattle.estimate_rounds.specs.Rounds.{Fit, fit_from, last_rows, vector, finite_at, concluded}
 use Rattle.median.specs.Sorted.{Each}
 use Rattle.wls.specs.declared.fix.Solution.{Solution}
-use Rattle.wls.specs.declared.fix.Fix.{Fix}
-use Rattle.wls.specs.declared.fix.Fix.TheVariants.{Refused, At}
-use Rattle.wls.specs.declared.fix.Position.{Position}
-use Rattle.wls.specs.declared.fix.Position.TheVariants.{Refused as NoPosition, At as PositionAt}
 
 -- the arguments of a call
 pub record Input : Type 0 where
@@ -119,46 +117,38 @@ abbrev pub solution_at : ℕ → List Row → Float → List Float → Solution
 solution_at n rows chi x = record { position = vector x; used = length rows; chi = chi; pdop = dilution_of n rows }
 
 -- the answer of the rounds over the observations os, with the clocks k
-unfoldable pub found_over : Settings → Clocks → List Observation → Vec3 → Fix
+unfoldable pub found_over : Settings → Clocks → List Observation → Vec3 → Result Solution Refusal
 found_over settings k os guess =
     let f = fit_over settings k os guess in
     let n = 3 + k.count in
     let rows = last_rows [] f.rounds in
-    concluded Refused (λ x. end_rules n rows (sight_rules os x) (chi_at settings k os x) x) (λ x. At (solution_at n rows (chi_at settings k os x) x)) f.end
+    concluded Err (λ x. end_rules n rows (sight_rules os x) (chi_at settings k os x) x) (λ x. Ok (solution_at n rows (chi_at settings k os x) x)) f.end
 
 -- rules 2 to 9, and then the answer of the rounds
-unfoldable pub fix_of : Input → Fix
-fix_of i = ruled Refused (fix_rules i.observations i.guess i.settings) (found_over i.settings (clocks i) (kept_observations i) i.guess)
+unfoldable pub fix_of : Input → Result Solution Refusal
+fix_of i = ruled Err (fix_rules i.observations i.guess i.settings) (found_over i.settings (clocks i) (kept_observations i) i.guess)
 
 -- the answer of the call that gives the position alone
-abbrev pub position_of : Fix → Position
-position_of (Refused r) = NoPosition r
-position_of (At s) = PositionAt s.position
+abbrev pub position_of : Result Solution Refusal → Result Vec3 Refusal
+position_of (Err r) = Err r
+position_of (Ok s) = Ok s.position
 
 -- ---- an answer in numbers: its number, which is 0 where it is accepted, its floats and its count; a refusal has only its number
 
-abbrev pub fix_number : Fix → ℕ
-fix_number (Refused r) = number_of r
-fix_number (At s) = 0
-
 -- x, y, z, chi, pdop
-abbrev pub fix_floats : Fix → List Float
-fix_floats (Refused r) = []
-fix_floats (At s) = s.position.x ∷ s.position.y ∷ s.position.z ∷ s.chi ∷ s.pdop ∷ []
+abbrev pub fix_floats : Result Solution Refusal → List Float
+fix_floats (Err r) = []
+fix_floats (Ok s) = s.position.x ∷ s.position.y ∷ s.position.z ∷ s.chi ∷ s.pdop ∷ []
 
 -- used
-abbrev pub fix_counts : Fix → List ℕ
-fix_counts (Refused r) = []
-fix_counts (At s) = s.used ∷ []
-
-abbrev pub position_number : Position → ℕ
-position_number (NoPosition r) = number_of r
-position_number (PositionAt p) = 0
+abbrev pub fix_counts : Result Solution Refusal → List ℕ
+fix_counts (Err r) = []
+fix_counts (Ok s) = s.used ∷ []
 
 -- x, y, z
-abbrev pub position_floats : Position → List Float
-position_floats (NoPosition r) = []
-position_floats (PositionAt p) = p.x ∷ p.y ∷ p.z ∷ []
+abbrev pub position_floats : Result Vec3 Refusal → List Float
+position_floats (Err r) = []
+position_floats (Ok p) = p.x ∷ p.y ∷ p.z ∷ []
 
 -- ---- the promise of the public call
 
@@ -179,18 +169,18 @@ pub record Accepted (i : Input) (s : Solution) : Type 0 where
   pub finite-residuals : Each FiniteResiduals (rounds_of i)
 
 -- the answer, its number and its values are the definition's, for every input, and its floats are finite
-pub record Promised (i : Input) (r : Fix) : Type 0 where
+pub record Promised (i : Input) (r : Result Solution Refusal) : Type 0 where
   pub answer : r ≡ fix_of i
-  pub number_is : fix_number r ≡ fix_number (fix_of i)
+  pub number_is : answer_number r ≡ answer_number (fix_of i)
   pub floats-are : fix_floats r ≡ fix_floats (fix_of i)
   pub counts-are : fix_counts r ≡ fix_counts (fix_of i)
   pub given-finite : every finite (fix_floats r) ≡ true
-  pub accepted : (s : Solution) → r ≡ At s → Accepted i s
+  pub accepted : (s : Solution) → r ≡ Ok s → Accepted i s
 
 -- the answer, its number and its values are those of the position of the fix, and demand 3 holds of every round of an accepted one
-pub record PositionPromised (i : Input) (r : Position) : Type 0 where
+pub record PositionPromised (i : Input) (r : Result Vec3 Refusal) : Type 0 where
   pub answer : r ≡ position_of (fix_of i)
-  pub number_is : position_number r ≡ position_number (position_of (fix_of i))
+  pub number_is : answer_number r ≡ answer_number (position_of (fix_of i))
   pub floats-are : position_floats r ≡ position_floats (position_of (fix_of i))
   pub given-finite : every finite (position_floats r) ≡ true
-  pub accepted : (s : Solution) → fix_of i ≡ At s → Accepted i s
+  pub accepted : (s : Solution) → fix_of i ≡ Ok s → Accepted i s

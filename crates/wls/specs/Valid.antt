@@ -5,7 +5,8 @@ use Rattle.numeric.specs.Real.{in_range}
 use Rattle.numeric.specs.declared.vec3.Vec3.{Vec3}
 use Rattle.numeric.specs.declared.refusal.Refusal.TheVariants.{TooMany, SettingOutOfRange, RecordOutOfRange}
 use Rattle.numeric.specs.Rules.{Rule, rule}
-use Rattle.records.specs.Record.{counted_observations, placeable, sound_observation}
+use Rattle.numeric.specs.Vec3.{vector_in_range}
+use Rattle.records.specs.Record.{counted_observations, sound_observation}
 use Rattle.records.specs.declared.record.Observations.{Observations}
 use Rattle.wls.specs.declared.fix.Settings.{Settings as FixSettings}
 
@@ -20,5 +21,5 @@ unfoldable pub fix_input_rules : Observations → Vec3 → FixSettings → List 
 fix_input_rules observations guess settings =
     rule TooMany (ltb 64 observations.count)
     ∷ rule SettingOutOfRange (not (fix_settings_pass settings))
-    ∷ rule RecordOutOfRange (not (every sound_observation (counted_observations observations) && placeable guess))
+    ∷ rule RecordOutOfRange (not (every sound_observation (counted_observations observations) && vector_in_range guess))
     ∷ []

@@ -8,21 +8,19 @@ use clocks::clocks::Clocks;
 use estimate_rounds::rounds::state_at;
 use numeric::real::square;
 use numeric::refusal::Refusal;
-use numeric::sight::{Sighting, geometry};
+use numeric::sight::geometry;
 use numeric::vec3::Vec3;
 use quality::figures::freedom_of;
 use records::record::Observations;
 use root::sqrt::sqrt;
 
-// Chi at a state, or the refusal of a line of sight there.
-#[derive(Clone, Copy)]
-pub enum Chi {
-    Refused(Refusal),
-    Of(f64),
-}
-
 // Returns chi of the observations with these sigmas at the state s, the root of the reduced chi-squared, or refuses a line of sight by 15.
-pub(crate) fn chi_at(k: Clocks, sky: Observations, sigma: &[f64; 64], s: [f64; 9]) -> Chi
+pub(crate) fn chi_at(
+    k: Clocks,
+    sky: Observations,
+    sigma: &[f64; 64],
+    s: [f64; 9],
+) -> Result<f64, Refusal>
     requires { (sky.count ≤ 64) × (k.count ≤ 6) }
     ensures { (settings : Settings) → SigmasOf settings sky sigma.now → ChiAnswered settings k (counted_observations sky) s result }
 {
@@ -35,14 +33,11 @@ pub(crate) fn chi_at(k: Clocks, sky: Observations, sigma: &[f64; 64], s: [f64; 9
     let mut t = 0.0;
     for j in 0..count {
         let o = sky.observation[j];
-        let seen = geometry(o.satellite, at);
-        let Sighting::Seen(g) = seen else {
-            return Chi::Refused(Refusal::OnReceiver);
-        };
+        let g = geometry(o.satellite, at)?;
         let q = k.slot(o.constellation);
         let e = o.pseudorange - (g.range + state_at(s, q));
         let w = sigma[j];
         t = t + square(e / w);
     }
-    Chi::Of(sqrt(t / freedom_of(count, 3 + k.count)))
+    Ok(sqrt(t / freedom_of(count, 3 + k.count)))
 }

@@ -6,27 +6,19 @@ ghost use Rattle.numeric.specs.Rules.{ruled};
 ghost use Rattle.wls.specs.Valid as spec;
 
 use crate::fix::Settings;
-use estimate_rounds::rules::Check;
 use numeric::real::in_range;
 use numeric::refusal::Refusal;
 use numeric::vec3::Vec3;
-use records::record::{Observations, is_placeable, is_sound_observation};
+use records::record::{Observations, is_sound_observation};
 
 // Checks rule 4 for each counted observation.
 pub(crate) fn all_sound_observations(o: Observations) -> bool
     requires { o.count ≤ 64 }
     ensures { result ≡ every sound_observation (counted_observations o) }
 {
-    let n = o.count;
-    let mut i: usize = 0;
-    while i < n {
-        let x = o.observation[i];
-        if !is_sound_observation(x) {
-            return false;
-        }
-        i += 1;
-    }
-    true
+    o.observation[..o.count]
+        .iter()
+        .all(|x| is_sound_observation(*x))
 }
 
 // Checks rule 3 of a fix.
@@ -42,17 +34,21 @@ pub(crate) fn fix_settings_pass(s: Settings) -> bool
 }
 
 // Checks rules 2 to 4 of a fix.
-pub(crate) fn check_fix(observations: Observations, guess: Vec3, settings: Settings) -> Check
-    ensures { result ≡ ruled Check.Refused (spec.fix_input_rules observations guess settings) Check.Passed }
+pub(crate) fn check_fix(
+    observations: Observations,
+    guess: Vec3,
+    settings: Settings,
+) -> Result<(), Refusal>
+    ensures { result ≡ ruled Err (spec.fix_input_rules observations guess settings) (Ok tt) }
 {
     if 64 < observations.count {
-        return Check::Refused(Refusal::TooMany);
+        return Err(Refusal::TooMany);
     }
     if !fix_settings_pass(settings) {
-        return Check::Refused(Refusal::SettingOutOfRange);
+        return Err(Refusal::SettingOutOfRange);
     }
-    if !(all_sound_observations(observations) & is_placeable(guess)) {
-        return Check::Refused(Refusal::RecordOutOfRange);
+    if !(all_sound_observations(observations) & guess.is_in_range()) {
+        return Err(Refusal::RecordOutOfRange);
     }
-    Check::Passed
+    Ok(())
 }

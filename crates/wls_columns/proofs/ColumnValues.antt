@@ -8,8 +8,7 @@ use lib.Ieee.{Float}
 use Rattle.lists.specs.Walk.{places}
 use Rattle.exact.specs.Float.{+0}
 use Rattle.numeric.specs.declared.refusal.Refusal.TheVariants.{TooMany}
-use Rattle.cholesky.specs.Factor.{zeros}
-use Rattle.robust.specs.Step.{refused}
+use Rattle.std.specs.Prelude.{Err}
 use Rattle.records.specs.Carriers.{carrier_columns, carrier_at, carriers_of, epoch_fits}
 use Rattle.wls_columns.specs.Columns.{RowColumns, row_columns, row_from, rows_from, rows_fit, observation_columns, observation_at, observations_of, observations_fit}
 use Rattle.wls_columns.specs.Step.{column_step_of}
@@ -58,6 +57,6 @@ module _ (a b c d e f : Float) where
   observation_short = refl
 
 -- 65 rows, whatever the columns hold
-pub too_many_lem : (c : RowColumns) (unknowns : ℕ) (huber : Float) → column_step_of c 65 unknowns huber ≡ refused TooMany zeros
+pub too_many_lem : (c : RowColumns) (unknowns : ℕ) (huber : Float) → column_step_of c 65 unknowns huber ≡ Err TooMany
 unfolding column_step_of rows_fit
 too_many_lem c unknowns huber = refl

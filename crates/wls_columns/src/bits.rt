@@ -6,7 +6,7 @@ ghost use Rattle.cholesky.specs.Answer.{factoring_of};
 ghost use Rattle.wls_columns.specs.Bits.{patterns_after};
 ghost use Rattle.wls_columns.specs.Steps.{FiniteSquare};
 
-use cholesky::factor::{Factoring, factor_used};
+use cholesky::factor::factor_used;
 use numeric::order::pattern;
 use numeric::refusal::Refusal;
 
@@ -44,12 +44,12 @@ fn row_bits(i: usize, m: &[[f64; 9]; 9]) -> [u64; 9]
 }
 
 // Writes the patterns of the factor of a to l, or refuses and leaves l unchanged. Only the lower triangle of a is read. An accepted factor is finite.
-pub fn factor_patterns(a: &[[f64; 9]; 9], l: &mut [[u64; 9]; 9]) -> Factoring
+pub fn factor_patterns(a: &[[f64; 9]; 9], l: &mut [[u64; 9]; 9]) -> Result<(), Refusal>
     ensures { let f = factor_of a.now in (result ≡ factoring_of f) × (l.new ≡ patterns_after f l.old) }
 {
     let mut m = [[0.0; 9]; 9];
     if factor_used(9, a, &mut m) {
-        let rows = [
+        *l = [
             row_bits(0, &m),
             row_bits(1, &m),
             row_bits(2, &m),
@@ -60,9 +60,8 @@ pub fn factor_patterns(a: &[[f64; 9]; 9], l: &mut [[u64; 9]; 9]) -> Factoring
             row_bits(7, &m),
             row_bits(8, &m),
         ];
-        *l = rows;
-        Factoring::Done
+        Ok(())
     } else {
-        Factoring::Refused(Refusal::FitFailed)
+        Err(Refusal::FitFailed)
     }
 }

@@ -2,6 +2,6 @@
 #![tactic(auto)]
 
 pub mod bits;
-mod columns;
+pub mod columns;
 pub mod fix;
 pub mod round;

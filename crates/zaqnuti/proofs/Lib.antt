@@ -1,3 +1,1 @@
-pub mod SightNumber
 pub mod CorrectionLaws
-pub mod TimeLaws

@@ -5,6 +5,7 @@ ghost use Rattle.records.specs.Lent.{lent_columns, lent_vector};
 ghost use Rattle.tdcp_columns.specs.Displacement.{lent, lent_settings, DisplacementAnswers};
 ghost use Rattle.zaqnuti.specs.Times.{time_at};
 
+use records::columns::EpochColumns;
 use records::pair::Profile;
 use tdcp::displacement::Interval;
 use tdcp_columns::displacement::columns_displaced;
@@ -47,19 +48,25 @@ pub extern "C" fn zaqnuti_displacement_between(
     let after = GpsTime {
         nanos: current_time,
     };
+    let previous = EpochColumns {
+        constellation: previous_constellation,
+        svid: previous_svid,
+        band: previous_band,
+        state: previous_state,
+        floats: previous_floats,
+        count: previous_count,
+    };
+    let current = EpochColumns {
+        constellation: current_constellation,
+        svid: current_svid,
+        band: current_band,
+        state: current_state,
+        floats: current_floats,
+        count: current_count,
+    };
     let answer = columns_displaced(
-        previous_constellation,
-        previous_svid,
-        previous_band,
-        previous_state,
-        previous_floats,
-        previous_count,
-        current_constellation,
-        current_svid,
-        current_band,
-        current_state,
-        current_floats,
-        current_count,
+        previous,
+        current,
         Interval::Between(before, after),
         receiver,
         settings,

@@ -1,13 +1,16 @@
 // Entry points of the corrections: one base epoch added to a directory, and the bands of an old table.
+ghost use Rattle.numeric.specs.Refusal.{answer_number};
 ghost use Rattle.std.specs.Prelude.{◌≡◌};
 ghost use Rattle.lists.specs.Memory.{lent};
-ghost use Rattle.corrections_table.specs.Widen.{widen_of, widening_number, bands_after};
+ghost use Rattle.corrections_table.specs.Widen.{widen_of, bands_after};
 ghost use Rattle.corrections_directory.specs.Lent.{lent_table};
 ghost use Rattle.corrections_add.specs.Add.{AddsIn};
 ghost use Rattle.corrections_epoch_columns.specs.Epoch.{lent_entry};
 
+use corrections_epoch_columns::columns::{RangeColumns, StateColumns};
 use corrections_epoch_columns::lent::{add_into, counts_into};
-use corrections_table::widen::{Widening, widen_bands};
+use corrections_table::widen::widen_bands;
+use numeric::refusal::answer_number;
 
 // Adds one base epoch of ranges, with states of eight floats each (position, velocity, clock, modelled) or the mark that there are none, to the directory of
 // `blocks` entries and `table_count` samples. Returns 0 and writes both counts. On refusal, returns its number and changes nothing.
@@ -40,7 +43,8 @@ pub extern "C" fn zaqnuti_add_epoch(
     max_correction: f64,
     corrected: &[bool; 8],
 ) -> u8
-    ensures { let t = lent_table (lent block_constellation) (lent block_svid) (lent block_band) (lent block_first) (lent block_samples) (lent table_time) (lent table_metres) in
+    ensures { let t = lent_table
+        (lent block_constellation) (lent block_svid) (lent block_band) (lent block_first) (lent block_samples) (lent table_time) (lent table_metres) in
         let m = blocks.old in
         let n = table_count.old in
         let o = lent_entry m n t.before time ranges range_constellation range_svid range_band range_pseudorange
@@ -49,6 +53,20 @@ pub extern "C" fn zaqnuti_add_epoch(
 {
     let entries = *blocks;
     let samples = *table_count;
+    let range_columns = RangeColumns {
+        count: ranges,
+        constellation: range_constellation,
+        svid: range_svid,
+        band: range_band,
+        pseudorange: range_pseudorange,
+    };
+    let state_columns = StateColumns {
+        count: states,
+        constellation: state_constellation,
+        svid: state_svid,
+        band: state_band,
+        floats: state_floats,
+    };
     let answer = add_into(
         block_constellation,
         block_svid,
@@ -60,17 +78,8 @@ pub extern "C" fn zaqnuti_add_epoch(
         table_metres,
         samples,
         time,
-        ranges,
-        range_constellation,
-        range_svid,
-        range_band,
-        range_pseudorange,
-        states_present,
-        states,
-        state_constellation,
-        state_svid,
-        state_band,
-        state_floats,
+        range_columns,
+        states_present.then_some(state_columns),
         base,
         rover,
         max_gap,
@@ -84,11 +93,7 @@ pub extern "C" fn zaqnuti_add_epoch(
 #[unsafe(no_mangle)]
 pub extern "C" fn zaqnuti_widen_bands(narrow: &[u8], n: usize, wide: &mut [u32]) -> u8
     ensures { let o = widen_of n narrow.now wide.old in
-        (result ≡ widening_number o) × (wide.new ≡ bands_after o n narrow.now wide.old) }
+        (result ≡ answer_number o) × (wide.new ≡ bands_after o n narrow.now wide.old) }
 {
-    let answer = widen_bands(narrow, n, wide);
-    match answer {
-        Widening::Refused(r) => r.number(),
-        Widening::Widened => 0,
-    }
+    answer_number(widen_bands(narrow, n, wide))
 }

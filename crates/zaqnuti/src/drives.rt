@@ -8,8 +8,9 @@ ghost use Rattle.trip_settings.specs.Drive.{begun_of, under_new, tested};
 ghost use Rattle.tdcp_columns.specs.Displacement.{displacement_settings, lent, lent_settings};
 ghost use Rattle.trip_settings.specs.Lent.{SettingsPut, TripBegun, TravelAnswers};
 
+use records::columns::EpochColumns;
 use records::pair::Profile;
-use tdcp::displacement::{Interval, plain};
+use tdcp::displacement::Interval;
 use tdcp_columns::displacement::columns_displaced;
 use trip_settings::lent::{begun, changed, put_begun, put_settings, travel_into};
 
@@ -78,26 +79,32 @@ pub extern "C" fn zaqnuti_trip_displacement(
         (Interval.Seconds dt) (lent_vector receiver) (lent_settings in_force in_force_rounds) Profile.General) pulses
         result trip.old trip.new delta.old delta.new counts.old counts.new }
 {
-    let answer = columns_displaced(
-        previous_constellation,
-        previous_svid,
-        previous_band,
-        previous_state,
-        previous_floats,
-        previous_count,
-        current_constellation,
-        current_svid,
-        current_band,
-        current_state,
-        current_floats,
-        current_count,
+    let previous = EpochColumns {
+        constellation: previous_constellation,
+        svid: previous_svid,
+        band: previous_band,
+        state: previous_state,
+        floats: previous_floats,
+        count: previous_count,
+    };
+    let current = EpochColumns {
+        constellation: current_constellation,
+        svid: current_svid,
+        band: current_band,
+        state: current_state,
+        floats: current_floats,
+        count: current_count,
+    };
+    let moved = columns_displaced(
+        previous,
+        current,
         Interval::Seconds(dt),
         receiver,
         in_force,
         in_force_rounds,
         Profile::General,
         false,
-    );
-    let moved = plain(answer);
+    )
+    .map(|d| d.moved);
     travel_into(trip, moved, pulses, delta, counts)
 }

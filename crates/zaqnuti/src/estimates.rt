@@ -7,10 +7,12 @@ ghost use Rattle.tdcp_columns.specs.Displacement.{lent, lent_settings, Displacem
 ghost use Rattle.wls_columns.specs.Columns.{observation_columns};
 ghost use Rattle.wls_columns.specs.Fix.{fix_settings, FixAnswers, PositionAnswers};
 
+use records::columns::EpochColumns;
 use records::pair::Profile;
 use tdcp::displacement::Interval;
 use tdcp_columns::displacement::columns_displaced;
 use tdcp_columns::lent::answer_into;
+use wls_columns::columns::LentObservations;
 use wls_columns::fix::{columns_fix, fix_into, position_into};
 
 // The displacement between two epochs, dt seconds apart.
@@ -41,19 +43,25 @@ pub extern "C" fn zaqnuti_displacement(
         (lent_columns current_constellation current_svid current_band current_state current_floats) current_count
         (Interval.Seconds dt) (lent_vector receiver) (lent_settings settings rounds) Profile.General) result (lent_memory delta) (lent_memory counts) }
 {
+    let previous = EpochColumns {
+        constellation: previous_constellation,
+        svid: previous_svid,
+        band: previous_band,
+        state: previous_state,
+        floats: previous_floats,
+        count: previous_count,
+    };
+    let current = EpochColumns {
+        constellation: current_constellation,
+        svid: current_svid,
+        band: current_band,
+        state: current_state,
+        floats: current_floats,
+        count: current_count,
+    };
     let answer = columns_displaced(
-        previous_constellation,
-        previous_svid,
-        previous_band,
-        previous_state,
-        previous_floats,
-        previous_count,
-        current_constellation,
-        current_svid,
-        current_band,
-        current_state,
-        current_floats,
-        current_count,
+        previous,
+        current,
         Interval::Seconds(dt),
         receiver,
         settings,
@@ -80,7 +88,11 @@ pub extern "C" fn zaqnuti_fix(
         (vector_at guess.now 0) (fix_settings settings.now rounds)
         result solution.old solution.new used.old used.new }
 {
-    let answer = columns_fix(constellation, floats, count, guess, settings, rounds);
+    let observations = LentObservations {
+        constellation,
+        floats,
+    };
+    let answer = columns_fix(observations, count, guess, settings, rounds);
     fix_into(answer, solution, used)
 }
 
@@ -99,6 +111,10 @@ pub extern "C" fn zaqnuti_position(
         (vector_at guess.now 0) (fix_settings settings.now rounds)
         result position.old position.new }
 {
-    let answer = columns_fix(constellation, floats, count, guess, settings, rounds);
+    let observations = LentObservations {
+        constellation,
+        floats,
+    };
+    let answer = columns_fix(observations, count, guess, settings, rounds);
     position_into(answer, position)
 }

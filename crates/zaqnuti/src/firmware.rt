@@ -6,7 +6,7 @@ ghost use Rattle.wire_tdcp.specs.Displacement as spec;
 use numeric::refusal::Refusal;
 use numeric::vec3::Vec3;
 use tdcp::displacement::Settings;
-use wire::columns::{columns_fit, fill, put_records};
+use wire::columns::{Columns, columns_fit, fill, put_records};
 use wire_tdcp::displacement::displacement_records;
 
 // The displacement between two slices of carrier records, with the numbers of line S in its order.
@@ -32,14 +32,14 @@ pub extern "C" fn zaqnuti_displacement_records(
         (spec.handed previous.now current.now dt (spec.vector_of x y z) (spec.line_settings screen sigma_a sigma_b huber mask rounds))
         result res.old res.new }
 {
-    let receiver = Vec3 { x: x, y: y, z: z };
+    let receiver = Vec3 { x, y, z };
     let settings = Settings {
-        screen: screen,
-        sigma_a: sigma_a,
-        sigma_b: sigma_b,
-        huber: huber,
-        mask: mask,
-        rounds: rounds,
+        screen,
+        sigma_a,
+        sigma_b,
+        huber,
+        mask,
+        rounds,
         agreement: 0.0,
     };
     displacement_records(previous, current, dt, receiver, settings, res)
@@ -58,13 +58,21 @@ pub extern "C" fn zaqnuti_write_records(
 ) -> u8
     ensures { RecordsWritten (records_before constellation svid band state floats) count result (lent bytes) }
 {
-    if !columns_fit(constellation, svid, band, state, floats, count) {
+    let columns = Columns {
+        constellation,
+        svid,
+        band,
+        state,
+        floats,
+        count,
+    };
+    if !columns_fit(columns) {
         return Refusal::TooMany.number();
     }
     if 59 * count > bytes.len() {
         return Refusal::TooMany.number();
     }
-    put_records(constellation, svid, band, state, floats, count, bytes);
+    put_records(columns, bytes);
     0
 }
 
@@ -86,7 +94,15 @@ pub extern "C" fn zaqnuti_read_records(
         return Refusal::BrokenRecords.number();
     }
     let n = bytes.len() / 59;
-    if !columns_fit(constellation, svid, band, state, floats, n) {
+    let columns = Columns {
+        constellation,
+        svid,
+        band,
+        state,
+        floats,
+        count: n,
+    };
+    if !columns_fit(columns) {
         return Refusal::TooMany.number();
     }
     fill(bytes, n, constellation, svid, band, state, floats);

@@ -3,7 +3,8 @@ ghost use Rattle.lists.specs.Memory.{lent};
 ghost use Rattle.corrections_directory.specs.Lent.{lent_table};
 ghost use Rattle.corrections_forget.specs.Forget.{ForgetsIn};
 
-use corrections_forget::forget::{Forgetting, forget};
+use corrections_forget::forget::forget;
+use numeric::refusal::put;
 
 // Drops samples earlier than `time`, keeping each satellite's newest of these, and sets `table_count` to how many are left; the directory keeps its
 // entries. Returns 0. On refusal, returns its number and changes nothing.
@@ -20,8 +21,8 @@ pub extern "C" fn zaqnuti_forget(
     table_count: &mut usize,
     time: f64,
 ) -> u8
-    ensures { ForgetsIn blocks table_count.old
-        (lent_table block_constellation block_svid block_band (lent block_first) (lent block_samples) (lent table_time) (lent table_metres)) time result table_count.new }
+    ensures { ForgetsIn blocks table_count.old (lent_table
+        block_constellation block_svid block_band (lent block_first) (lent block_samples) (lent table_time) (lent table_metres)) time result table_count.new }
 {
     let count = *table_count;
     let answer = forget(
@@ -36,11 +37,5 @@ pub extern "C" fn zaqnuti_forget(
         count,
         time,
     );
-    match answer {
-        Forgetting::Refused(r) => r.number(),
-        Forgetting::Count(k) => {
-            *table_count = k;
-            0
-        }
-    }
+    put(answer, table_count)
 }

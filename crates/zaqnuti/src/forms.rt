@@ -4,9 +4,10 @@ ghost use Rattle.lists.specs.Memory.{lent};
 ghost use Rattle.corrections_directory.specs.Read.{read_table};
 ghost use Rattle.corrections_convert.specs.Lent.{FilesIn, ListsIn, lent_directory, lent_signal_columns};
 
-use corrections_convert::answers::{filing_count, filing_number, listing_number};
 use corrections_convert::directory_of::directory_of;
 use corrections_convert::signals_of::signals_of;
+use corrections_directory::entry::Table;
+use numeric::refusal::{answer_number, put};
 
 // Returns 0, with the directory of a table, which shares its times and corrections, and the count of its entries; or the number of the refusal, with all of these
 // unchanged.
@@ -26,7 +27,8 @@ pub extern "C" fn zaqnuti_directory_of(
     blocks: &mut usize,
 ) -> u8
     ensures { let t = columns_before constellation svid band table_time table_metres in
-        FilesIn table_count t (lent_directory (lent block_constellation) (lent block_svid) (lent block_band) (lent block_first) (lent block_samples) t) result (lent blocks) }
+        FilesIn table_count t (lent_directory
+        (lent block_constellation) (lent block_svid) (lent block_band) (lent block_first) (lent block_samples) t) result (lent blocks) }
 {
     let answer = directory_of(
         constellation,
@@ -41,9 +43,7 @@ pub extern "C" fn zaqnuti_directory_of(
         block_first,
         block_samples,
     );
-    let old = *blocks;
-    *blocks = filing_count(answer, old);
-    filing_number(answer)
+    put(answer, blocks)
 }
 
 // Returns 0, with the signals of the table that a directory stands for, or the number of the refusal, with the three columns unchanged.
@@ -66,7 +66,7 @@ pub extern "C" fn zaqnuti_signals_of(
         block_constellation block_svid block_band block_first block_samples blocks table_time table_metres table_count in
         ListsIn table (lent_signal_columns (lent constellation) (lent svid) (lent band) table) result }
 {
-    listing_number(signals_of(
+    let table = Table {
         block_constellation,
         block_svid,
         block_band,
@@ -76,8 +76,6 @@ pub extern "C" fn zaqnuti_signals_of(
         table_time,
         table_metres,
         table_count,
-        constellation,
-        svid,
-        band,
-    ))
+    };
+    answer_number(signals_of(table, constellation, svid, band))
 }

@@ -4,6 +4,7 @@ ghost use Rattle.lists.specs.Memory.{lent as lent_memory};
 ghost use Rattle.records.specs.Lent.{lent_columns, lent_vector};
 ghost use Rattle.tdcp_columns.specs.Displacement.{lent, lent_settings, DisplacementAnswers};
 
+use records::columns::EpochColumns;
 use records::pair::Profile;
 use tdcp::displacement::Interval;
 use tdcp_columns::displacement::columns_displaced;
@@ -38,19 +39,25 @@ pub extern "C" fn zaqnuti_city_displacement(
         (lent_columns current_constellation current_svid current_band current_state current_floats) current_count
         (Interval.Seconds dt) (lent_vector receiver) (lent_settings settings rounds) (Profile.City band)) result (lent_memory delta) (lent_memory counts) }
 {
+    let previous = EpochColumns {
+        constellation: previous_constellation,
+        svid: previous_svid,
+        band: previous_band,
+        state: previous_state,
+        floats: previous_floats,
+        count: previous_count,
+    };
+    let current = EpochColumns {
+        constellation: current_constellation,
+        svid: current_svid,
+        band: current_band,
+        state: current_state,
+        floats: current_floats,
+        count: current_count,
+    };
     let answer = columns_displaced(
-        previous_constellation,
-        previous_svid,
-        previous_band,
-        previous_state,
-        previous_floats,
-        previous_count,
-        current_constellation,
-        current_svid,
-        current_band,
-        current_state,
-        current_floats,
-        current_count,
+        previous,
+        current,
         Interval::Seconds(dt),
         receiver,
         settings,

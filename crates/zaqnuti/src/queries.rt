@@ -4,7 +4,9 @@ ghost use Rattle.corrections_directory.specs.Read.{read_table};
 ghost use Rattle.corrections_query.specs.Query.{lent_query, Answers};
 ghost use Rattle.corrections_queries.specs.Queries.{asked, RepliesTo};
 
-use corrections_queries::queries::{call_number, one_query, queries};
+use corrections_directory::entry::Table;
+use corrections_queries::queries::{one_query, queries};
+use numeric::refusal::answer_number;
 
 // Returns 0, with the correction of a signal at a time in metres, or the number of the refusal, with metres unchanged.
 #[unsafe(no_mangle)]
@@ -29,7 +31,7 @@ pub extern "C" fn zaqnuti_query(
         (read_table block_constellation block_svid block_band block_first block_samples blocks table_time table_metres table_count) max_gap
         constellation svid band time) result metres.old metres.new }
 {
-    let answer = one_query(
+    let table = Table {
         block_constellation,
         block_svid,
         block_band,
@@ -39,13 +41,8 @@ pub extern "C" fn zaqnuti_query(
         table_time,
         table_metres,
         table_count,
-        max_gap,
-        constellation,
-        svid,
-        band,
-        time,
-        *metres,
-    );
+    };
+    let answer = one_query(table, max_gap, constellation, svid, band, time, *metres);
     *metres = answer.metres;
     answer.number
 }
@@ -76,7 +73,7 @@ pub extern "C" fn zaqnuti_queries(
         (read_table block_constellation block_svid block_band block_first block_samples blocks table_time table_metres table_count) max_gap
         (asked constellation svid band time count) result (lent numbers) (lent metres) }
 {
-    call_number(queries(
+    let table = Table {
         block_constellation,
         block_svid,
         block_band,
@@ -86,6 +83,9 @@ pub extern "C" fn zaqnuti_queries(
         table_time,
         table_metres,
         table_count,
+    };
+    answer_number(queries(
+        table,
         max_gap,
         constellation,
         svid,

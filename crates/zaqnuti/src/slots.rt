@@ -5,15 +5,22 @@ ghost use Rattle.zaqnuti.specs.Numbers.{clocks_from};
 
 use clocks::clocks::Clocks;
 
+// Returns the clocks that the lent slots and a count hold.
+fn clocks(slot: &[usize; 8], count: usize) -> Clocks
+    ensures { result ≡ clocks_from slot.now count }
+{
+    Clocks { slot: *slot, count }
+}
+
 // Writes the state with no constellation to the lent slots and count.
 #[unsafe(no_mangle)]
 pub extern "C" fn zaqnuti_clocks_new(slot: &mut [usize; 8], count: &mut usize)
     ensures { clocks_from slot.new count.new ≡ spec.none }
 {
-    let k = Clocks::new();
-    let s = k.slot;
-    *slot = s;
-    *count = k.count;
+    let none = Clocks::new();
+    let places = none.slot;
+    *slot = places;
+    *count = none.count;
 }
 
 // Adds a constellation to the lent state.
@@ -21,15 +28,10 @@ pub extern "C" fn zaqnuti_clocks_new(slot: &mut [usize; 8], count: &mut usize)
 pub extern "C" fn zaqnuti_clocks_given(slot: &mut [usize; 8], count: &mut usize, constellation: u8)
     ensures { clocks_from slot.new count.new ≡ spec.given (clocks_from slot.old count.old) constellation }
 {
-    let s = *slot;
-    let k = Clocks {
-        slot: s,
-        count: *count,
-    };
-    let g = k.given(constellation);
-    let t = g.slot;
-    *slot = t;
-    *count = g.count;
+    let given = clocks(slot, *count).given(constellation);
+    let places = given.slot;
+    *slot = places;
+    *count = given.count;
 }
 
 // Returns the slot of a constellation: the largest usize for one not yet given.
@@ -37,9 +39,7 @@ pub extern "C" fn zaqnuti_clocks_given(slot: &mut [usize; 8], count: &mut usize,
 pub extern "C" fn zaqnuti_clocks_slot(slot: &[usize; 8], constellation: u8) -> usize
     ensures { result ≡ spec.slot (clocks_from slot.now 0) constellation }
 {
-    let s = *slot;
-    let k = Clocks { slot: s, count: 0 };
-    k.slot(constellation)
+    clocks(slot, 0).slot(constellation)
 }
 
 // Returns the number of unknowns: three coordinates and a clock for each constellation given.
@@ -47,10 +47,5 @@ pub extern "C" fn zaqnuti_clocks_slot(slot: &[usize; 8], constellation: u8) -> u
 pub extern "C" fn zaqnuti_clocks_unknowns(slot: &[usize; 8], count: usize) -> usize
     ensures { result ≡ spec.unknowns (clocks_from slot.now count) }
 {
-    let s = *slot;
-    let k = Clocks {
-        slot: s,
-        count: count,
-    };
-    k.unknowns()
+    clocks(slot, count).unknowns()
 }

@@ -4,21 +4,15 @@ ghost use Rattle.lists.specs.Memory.{lent};
 ghost use Rattle.zaqnuti.specs.Times.{time_at, TimeAnswers, NanosAnswers, SecondsAnswers};
 
 use numeric::order::pattern;
-use time::time::{GpsTime, Nanos, Seconds, Time};
+use numeric::refusal::put;
+use time::time::GpsTime;
 
 // Returns 0 and writes the nanoseconds since the start of week 0 to nanos, or returns 13 and leaves nanos unchanged.
 #[unsafe(no_mangle)]
 pub extern "C" fn zaqnuti_time(week: u32, tow: f64, nanos: &mut u64) -> u8
     ensures { TimeAnswers (time_of week tow) result (lent nanos) }
 {
-    let answer = GpsTime::new(week, tow);
-    match answer {
-        Time::Refused(r) => r.number(),
-        Time::At(t) => {
-            *nanos = t.nanos;
-            0
-        }
-    }
+    put(GpsTime::new(week, tow).map(|t| t.nanos), nanos)
 }
 
 // Returns 0 and writes the nanoseconds from the time `earlier` to `later` to nanos, or returns 13 and leaves nanos unchanged.
@@ -28,14 +22,7 @@ pub extern "C" fn zaqnuti_nanos_since(later: u64, earlier: u64, nanos: &mut i64)
 {
     let a = GpsTime { nanos: later };
     let b = GpsTime { nanos: earlier };
-    let answer = a.nanos_since(b);
-    match answer {
-        Nanos::Refused(r) => r.number(),
-        Nanos::Since(z) => {
-            *nanos = z;
-            0
-        }
-    }
+    put(a.nanos_since(b), nanos)
 }
 
 // Returns 0 and writes the seconds from the time `earlier` to `later` to seconds, or returns 13 and leaves seconds unchanged.
@@ -45,12 +32,5 @@ pub extern "C" fn zaqnuti_seconds_since(later: u64, earlier: u64, seconds: &mut 
 {
     let a = GpsTime { nanos: later };
     let b = GpsTime { nanos: earlier };
-    let answer = a.seconds_since(b);
-    match answer {
-        Seconds::Refused(r) => r.number(),
-        Seconds::Since(x) => {
-            *seconds = pattern(x);
-            0
-        }
-    }
+    put(a.seconds_since(b).map(pattern), seconds)
 }

@@ -3,6 +3,8 @@ ghost use Rattle.track_pass.specs.Input.{lent_track};
 ghost use Rattle.lists.specs.Memory.{lent};
 ghost use Rattle.zaqnuti.specs.Track.{settings, TrackCalled};
 
+use numeric::refusal::answer_number;
+use track_pass::measured::{Measured, Track};
 use track_smooth::{Settings, smooth};
 
 // Puts the track of some epochs into `result` and answers 0, or the number of the refusal.
@@ -25,20 +27,21 @@ pub extern "C" fn zaqnuti_smooth(
     ensures { let p = lent_track epochs anchors anchor_epoch anchor_position anchor_sigma links link_epoch link_change link_sigma in
         TrackCalled p (settings huber iterations) (lent res) (lent work) result }
 {
-    let set = Settings { huber, iterations };
-    let track = smooth(
+    let track = Track {
         epochs,
-        anchors,
-        links,
-        anchor_epoch,
-        anchor_position,
-        anchor_sigma,
-        link_epoch,
-        link_change,
-        link_sigma,
-        set,
-        res,
-        work,
-    );
-    track.number()
+        anchors: Measured {
+            count: anchors,
+            epoch: anchor_epoch,
+            value: anchor_position,
+            sigma: anchor_sigma,
+        },
+        links: Measured {
+            count: links,
+            epoch: link_epoch,
+            value: link_change,
+            sigma: link_sigma,
+        },
+    };
+    let set = Settings { huber, iterations };
+    answer_number(smooth(track, set, res, work))
 }

@@ -6,6 +6,3 @@ use Rattle.cholesky.proofs.factor.ahead.Given as goal
 
 abbrev pub invariant-loop-k : goal.invariant-loop-k
 invariant-loop-k l = (l.k ≤ l.c) × (l.s ≡ sum_of l.k l.m l.j l.a l.l) × (l.q ≡ sum_of l.k l.m l.m l.a l.l)
-
-abbrev pub decreases-loop-k : goal.decreases-loop-k
-decreases-loop-k l = l.c - l.k

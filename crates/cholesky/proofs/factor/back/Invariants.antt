@@ -8,11 +8,5 @@ use Rattle.cholesky.proofs.factor.back.Given as goal
 abbrev pub invariant-loop-k : goal.invariant-loop-k
 invariant-loop-k l = (l.i + 1 + l.m ≡ l.n) × (l.k ≤ l.m) × (l.s ≡ less_products (at l.x l.i) (λ z. cell l.l (l.i + 1 + z) l.i) (λ z. at l.x (l.i + 1 + z)) l.k)
 
-abbrev pub decreases-loop-k : goal.decreases-loop-k
-decreases-loop-k l = l.m - l.k
-
 abbrev pub invariant-loop-m : goal.invariant-loop-m
 invariant-loop-m l = (l.m ≤ l.n) × UnusedPlaces l.n l.x × (l.x ≡ back_to (9 - l.n + l.m) l.l l.initial.x)
-
-abbrev pub decreases-loop-m : goal.decreases-loop-m
-decreases-loop-m l = l.n - l.m

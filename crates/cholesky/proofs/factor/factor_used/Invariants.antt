@@ -7,6 +7,3 @@ use Rattle.cholesky.proofs.factor.factor_used.Given as goal
 
 abbrev pub invariant-loop-j : goal.invariant-loop-j
 invariant-loop-j l = (l.j < l.n) × Columns l.n l.j l.n l.a l.l × (l.p ≡ sum_of l.j l.j l.j l.a l.l)
-
-abbrev pub decreases-loop-j : goal.decreases-loop-j
-decreases-loop-j l = l.n - l.j

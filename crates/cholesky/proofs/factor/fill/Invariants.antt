@@ -6,6 +6,3 @@ use Rattle.cholesky.proofs.factor.fill.Given as goal
 
 abbrev pub invariant-loop-r : goal.invariant-loop-r
 invariant-loop-r l = (l.i ≤ l.r) × (l.r ≤ l.n) × (l.l ≡ filled (l.r - l.i) l.j l.d l.i l.a l.initial.l)
-
-abbrev pub decreases-loop-r : goal.decreases-loop-r
-decreases-loop-r l = l.n - l.r

@@ -8,11 +8,5 @@ use Rattle.cholesky.proofs.factor.forward.Given as goal
 abbrev pub invariant-loop-k : goal.invariant-loop-k
 invariant-loop-k l = (l.i < l.n) × (l.k ≤ l.i) × (l.s ≡ less_products (at l.x l.i) (cell l.l l.i) (at l.x) l.k)
 
-abbrev pub decreases-loop-k : goal.decreases-loop-k
-decreases-loop-k l = l.i - l.k
-
 abbrev pub invariant-loop-i : goal.invariant-loop-i
 invariant-loop-i l = (l.i ≤ l.n) × (l.x ≡ forward_to l.i l.l l.initial.x)
-
-abbrev pub decreases-loop-i : goal.decreases-loop-i
-decreases-loop-i l = l.n - l.i

@@ -6,6 +6,3 @@ use Rattle.cholesky.proofs.factor.mark.Given as goal
 
 abbrev pub invariant-loop-i : goal.invariant-loop-i
 invariant-loop-i l = (l.n ≤ l.i) × (l.i ≤ 9) × (l.l ≡ ones_marked (l.i - l.n) l.n l.initial.l)
-
-abbrev pub decreases-loop-i : goal.decreases-loop-i
-decreases-loop-i l = 9 - l.i

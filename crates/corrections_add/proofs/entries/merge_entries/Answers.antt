@@ -22,15 +22,12 @@ At-loop-j = lts.At-loop tie.the-claims reads.Pre reads.Post goal.the-invariant-l
 abbrev Start : Type 0
 Start = lts.Start tie.the-claims reads.Pre reads.Post goal.the-invariant-loop-j goal.the-decreases-loop-j
 
-pub overflow_add-end : goal.overflow_add-end
-overflow_add-end c = omega (arith, c.requires.1.0.0)
-
 pub loop-j-init : goal.loop-j-init
-loop-j-init c = let s = c in placing-start s.requires.0 s.args.new_count s.args.count s.requires.1.1.1.1
+loop-j-init c = let s = c in placing-start s.requires.0 s.args.new.count s.args.count s.requires.1.1.1.1
 
 -- ---- what is known in every turn
 abbrev start : At-loop-j → Start
-start t = t.before.before.before.before.before.before.before.before.before
+start t = t.before.before.before.before.before.before
 
 -- the columns keep their lengths
 
@@ -47,11 +44,11 @@ keeps t =
     let a = s.args in
     let some = s.requires.1.1.0 in
     record {
-      same-c = long-c s.requires.0 a.new_count a.count t.loop-j.invariant some;
-      same-v = long-v s.requires.0 a.new_count a.count t.loop-j.invariant some;
-      same-b = long-b s.requires.0 a.new_count a.count t.loop-j.invariant some;
-      same-f = long-f s.requires.0 a.new_count a.count t.loop-j.invariant some;
-      same-n = long-n s.requires.0 a.new_count a.count t.loop-j.invariant some;
+      same-c = long-c s.requires.0 a.new.count a.count t.loop-j.invariant some;
+      same-v = long-v s.requires.0 a.new.count a.count t.loop-j.invariant some;
+      same-b = long-b s.requires.0 a.new.count a.count t.loop-j.invariant some;
+      same-f = long-f s.requires.0 a.new.count a.count t.loop-j.invariant some;
+      same-n = long-n s.requires.0 a.new.count a.count t.loop-j.invariant some;
     }
 
 -- each column has a place for the entry that was found
@@ -81,7 +78,7 @@ turn c =
     let room = room_of_lem a.count a.block_constellation.now a.block_svid.now a.block_band.now a.block_first.now a.block_samples.now s.requires.1.1.1.0 in
     let k = keeps t in
     record {
-      left = some_left s.requires.0 a.new_count a.count i c.last_of-last.ensures (fronts s.requires.0 a.new_count a.count i some) some;
+      left = some_left s.requires.0 a.new.count a.count i c.last_of-last.ensures (fronts s.requires.0 a.new.count a.count i some) some;
       in_c = omega (arith, i.high, room.in-dc, k.same-c);
       small-c = k.same-c;
       in-v = omega (arith, i.high, room.in-dv, k.same-v);
@@ -101,47 +98,44 @@ last_of-last-requires c = let s = c in
     let t = s.requires.0 in
     let some = s.requires.1.1.0 in
     let f = h.invariant.old in
-    let e = fronts t a.new_count a.count h.invariant some in
-    let l = same_rows t a.new_count a.count h.invariant some in (
+    let e = fronts t a.new.count a.count h.invariant some in
+    let l = same_rows t a.new.count a.count h.invariant some in (
       (omega (arith, f, t.few, l), rw e (ascends-take 0 (take a.blocks (entry_rows a.block_constellation.now a.block_svid.now a.block_band.now a.block_first.now a.block_samples.now)) h.i t.ascending)),
       (
         (c.loop-j-test.true, (h.invariant.tail, (omega (arith, h.invariant.new), (omega (arith, h.invariant.new), omega (arith, h.invariant.new))))),
-        λ q. rw (same-f t a.new_count a.count h.invariant some q, same-n t a.new_count a.count h.invariant some q) (last_fits t h.i h.j a.new_count f h.invariant.new s.requires.1.0.0 q),
+        λ q. rw (same-f t a.new.count a.count h.invariant some q, same-n t a.new.count a.count h.invariant some q) (last_fits t h.i h.j a.new.count f h.invariant.new s.requires.1.0.0 q),
       ),
     )
 
 pub overflow_sub-w : goal.overflow_sub-w
-overflow_sub-w c = omega (arith, turn c.before)
+overflow_sub-w c = omega (arith, turn c)
 
 pub bounds-block_constellation-w : goal.bounds-block_constellation-w
-bounds-block_constellation-w c = omega (arith, turn c.before)
+bounds-block_constellation-w c = omega (arith, turn c)
 
 pub offset_bounds-block_svid-w : goal.offset_bounds-block_svid-w
-offset_bounds-block_svid-w c = omega (arith, turn c.before, (start (loop_at c.before)).well_formed.1.0)
+offset_bounds-block_svid-w c = omega (arith, turn c, (start (loop_at c)).well_formed.1.0)
 
 pub bounds-block_svid-w : goal.bounds-block_svid-w
-bounds-block_svid-w c = omega (arith, turn c.before)
+bounds-block_svid-w c = omega (arith, turn c)
 
 pub offset_bounds-block_band-w : goal.offset_bounds-block_band-w
-offset_bounds-block_band-w c = omega (arith, turn c.before, (start (loop_at c.before)).well_formed.1.1.0)
+offset_bounds-block_band-w c = omega (arith, turn c, (start (loop_at c)).well_formed.1.1.0)
 
 pub bounds-block_band-w : goal.bounds-block_band-w
-bounds-block_band-w c = omega (arith, turn c.before)
+bounds-block_band-w c = omega (arith, turn c)
 
 pub offset_bounds-block_first-w : goal.offset_bounds-block_first-w
-offset_bounds-block_first-w c = omega (arith, turn c.before, (start (loop_at c.before)).well_formed.1.1.1.0)
+offset_bounds-block_first-w c = omega (arith, turn c, (start (loop_at c)).well_formed.1.1.1.0)
 
 pub bounds-block_first-w : goal.bounds-block_first-w
-bounds-block_first-w c = omega (arith, turn c.before)
+bounds-block_first-w c = omega (arith, turn c)
 
 pub offset_bounds-block_samples-w : goal.offset_bounds-block_samples-w
-offset_bounds-block_samples-w c = omega (arith, turn c.before, (start (loop_at c.before)).well_formed.1.1.1.1.0)
+offset_bounds-block_samples-w c = omega (arith, turn c, (start (loop_at c)).well_formed.1.1.1.1.0)
 
 pub bounds-block_samples-w : goal.bounds-block_samples-w
-bounds-block_samples-w c = omega (arith, turn c.before)
-
-pub loop-j-smaller : goal.loop-j-smaller
-loop-j-smaller c = omega (arith, c.last_of-last.ensures.fewer)
+bounds-block_samples-w c = omega (arith, turn c)
 
 pub loop-j-preserved : goal.loop-j-preserved
 loop-j-preserved c = let s = c in
@@ -149,23 +143,8 @@ loop-j-preserved c = let s = c in
     let h = c.loop-j in
     let t = s.requires.0 in
     let some = s.requires.1.1.0 in
-    placing-turn t a.new_count a.count h.invariant c.last_of-last.ensures (fronts t a.new_count a.count h.invariant some) s.requires.1.1.1.0
-    (λ x. omega (arith, c.shared_slice_known-2-1.given x)) (λ x. omega (arith, c.shared_slice_known-3-1.given x)) (λ x. omega (arith, c.slice_known-2-1.given x)) (λ x. omega (arith, c.slice_known-3-1.given x))
-
-pub shape_of-block_constellation : goal.shape_of-block_constellation
-shape_of-block_constellation c = (keeps c.before.before).same-c
-
-pub shape_of-block_svid : goal.shape_of-block_svid
-shape_of-block_svid c = (keeps c.before.before).same-v
-
-pub shape_of-block_band : goal.shape_of-block_band
-shape_of-block_band c = (keeps c.before.before).same-b
-
-pub shape_of-block_first : goal.shape_of-block_first
-shape_of-block_first c = (keeps c.before.before).same-f
-
-pub shape_of-block_samples : goal.shape_of-block_samples
-shape_of-block_samples c = (keeps c.before.before).same-n
+    placing-turn t a.new.count a.count h.invariant c.last_of-last.ensures (fronts t a.new.count a.count h.invariant some) s.requires.1.1.1.0
+    a.new.svids_fit a.new.bands_fit (λ x. omega (arith, c.slice_known-2-1.given x)) (λ x. omega (arith, c.slice_known-3-1.given x))
 
 pub returns : goal.returns
-returns c = let s = start c.before.before in placing-end s.requires.0 s.args.new_count s.args.count c.loop-j.invariant (omega (arith, c.loop-j-test.false))
+returns c = let s = start c.before in placing-end s.requires.0 s.args.new.count s.args.count c.loop-j.invariant (omega (arith, c.loop-j-test.false))

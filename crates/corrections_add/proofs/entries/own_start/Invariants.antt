@@ -4,7 +4,4 @@ use Rattle.corrections_add.proofs.OwnLaws.{Own}
 use Rattle.corrections_add.proofs.entries.own_start.Given as goal
 
 abbrev pub invariant-loop-a : goal.invariant-loop-a
-invariant-loop-a l = (l.a ≤ l.j) × Own l.new_constellation l.new_svid l.new_band l.g l.a l.j
-
-abbrev pub decreases-loop-a : goal.decreases-loop-a
-decreases-loop-a l = l.a
+invariant-loop-a l = (l.a ≤ l.j) × Own l.new.constellation.now l.new.svid.now l.new.band.now l.g l.a l.j

@@ -11,7 +11,7 @@ use Rattle.corrections_add.proofs.readings.merge_readings.Given as goal
 -- whatever the counts are
 abbrev pub invariant-loop-j : goal.invariant-loop-j
 invariant-loop-j l = (dn : List ℕ) → Steady l.block_constellation l.block_svid l.block_band l.block_first l.blocks l.initial.table_time l.initial.table_metres l.table_count dn
-    → Merging (take l.blocks (entry_rows l.block_constellation l.block_svid l.block_band l.block_first dn)) (flat (directory_in l.blocks l.table_count (lent_blocks l.block_constellation l.block_svid l.block_band l.block_first dn (floats l.initial.table_time) (floats l.initial.table_metres)))) (table_of l.new_count (lent_samples l.new_constellation l.new_svid l.new_band l.new_time l.new_metres)) l.initial.table_time l.initial.table_metres l.table_count l.new_count l.table_time l.table_metres l.e l.i l.j
+    → Merging (take l.blocks (entry_rows l.block_constellation l.block_svid l.block_band l.block_first dn)) (flat (directory_in l.blocks l.table_count (lent_blocks l.block_constellation l.block_svid l.block_band l.block_first dn (floats l.initial.table_time) (floats l.initial.table_metres)))) (table_of l.new.count (lent_samples l.new.constellation.now l.new.svid.now l.new.band.now l.new.time.now l.new.metres.now)) l.initial.table_time l.initial.table_metres l.table_count l.new.count l.table_time l.table_metres l.e l.i l.j
 
 abbrev pub decreases-loop-j : goal.decreases-loop-j
 decreases-loop-j l = l.i + l.j

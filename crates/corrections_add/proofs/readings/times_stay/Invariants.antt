@@ -4,6 +4,3 @@ use Rattle.corrections_add.proofs.readings.times_stay.Given as goal
 
 abbrev pub invariant-loop-p : goal.invariant-loop-p
 invariant-loop-p l = Staying l.table_time l.first l.i l.t l.p
-
-abbrev pub decreases-loop-p : goal.decreases-loop-p
-decreases-loop-p l = l.p

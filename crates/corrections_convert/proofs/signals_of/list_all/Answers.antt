@@ -42,9 +42,6 @@ list_block-requires c = let s = c in
     let p = s.requires.signals_hold_2 in
     (omega arith, (omega (arith, w, p.0, l.0.same_length), (omega (arith, w, p.1.0, l.1.0.same_length), omega (arith, w, p.1.1, l.1.1.same_length))))
 
-pub overflow_add-i : goal.overflow_add-i
-overflow_add-i c = omega (arith, c.loop-i-test.true, c.ranges)
-
 pub loop-i-smaller : goal.loop-i-smaller
 loop-i-smaller c = omega (arith, c.loop-i-test.true)
 

@@ -22,9 +22,6 @@ offset_bounds-band-i c = omega (arith, c.loop-i.invariant.1.1.1.1.same_length, c
 pub bounds-band-i : goal.bounds-band-i
 bounds-band-i c = omega (arith, c.loop-i.invariant.1.1.1.1.same_length, c.requires.1.1.1, c.loop-i-test.true)
 
-pub overflow_add-i : goal.overflow_add-i
-overflow_add-i c = omega (arith, c.ranges, c.loop-i-test.true)
-
 pub loop-i-smaller : goal.loop-i-smaller
 loop-i-smaller c = omega (arith, c.loop-i-test.true)
 

@@ -7,7 +7,4 @@ use Rattle.corrections_directory.specs.Directory.{timely, timely_from}
 use Rattle.corrections_directory.proofs.sound.is_timely.Given as goal
 
 abbrev pub invariant-loop-i : goal.invariant-loop-i
-invariant-loop-i l = (l.first < l.i) × ((l.i ≤ l.end) × (timely_from (get_or l.table_time (l.i - 1) nan) (drop l.i (take (l.first + l.count) l.table_time)) ≡ timely (take l.count (drop l.first l.table_time))))
-
-abbrev pub decreases-loop-i : goal.decreases-loop-i
-decreases-loop-i l = l.end - l.i
+invariant-loop-i g l = (l.first < l.i) × ((l.i ≤ l.end) × (timely_from (get_or (g.T.Element.floats l.table_time) (l.i - 1) nan) (drop l.i (take (l.first + l.count) (g.T.Element.floats l.table_time))) ≡ timely (take l.count (drop l.first (g.T.Element.floats l.table_time)))))

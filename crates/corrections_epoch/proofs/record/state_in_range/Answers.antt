@@ -4,4 +4,4 @@ use Rattle.corrections_epoch.proofs.record.state_in_range.Goals as goal
 
 pub returns : goal.returns
 unfolding state_in_range
-returns c = rw (c.in_range-2.ensures, c.in_range.ensures, c.place_in_range-2.ensures, c.place_in_range.ensures)
+returns c = rw (c.in_range-2.ensures, c.in_range.ensures, c.is_in_range-2.ensures, c.is_in_range.ensures)

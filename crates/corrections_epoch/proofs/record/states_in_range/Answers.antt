@@ -1,25 +1,14 @@
 -- `corrections_epoch::record::states_in_range` meets its contract. Assumes nothing.
-use mathlib.Core.Path.{◌≡◌, refl}
-use Prim.Native.Nat.{◌≤◌}
-use native.Mathlib.Omega.{arith}
-use lib.ListN.{length}
-use Rattle.lists.proofs.Walk.{length-mapped, every-yes, every-no, every-end}
-use Rattle.corrections_epoch.specs.Record.{state_in_range}
-use Rattle.corrections_epoch.proofs.RawLaws.{blank_state}
+use mathlib.Core.Path.{sym, ◌∙◌}
 use borrow.Author.Rules.{rules}
+use borrow.Author.Tests.{tests}
+use Rattle.std.proofs.lemmas.Iterator.{YieldsList-from_slice}
+use Rattle.std.proofs.lemmas.Iterator.Search.{all_from_yields_List}
+use Rattle.corrections_epoch.specs.Record.{state_in_range}
+use Rattle.corrections_epoch.proofs.EveryLaws.{every_all}
 use Rattle.corrections_epoch.proofs.record.states_in_range.Goals as goal
 
-fits : (c : goal.Start) → c.args.n ≤ length c.args.states.states
-fits c = let e : length c.args.states.states ≡ 64 = search length-mapped in omega arith
-
-pub loop-i-init : goal.loop-i-init
-loop-i-init c = (search rules, refl)
-
-pub returns-then-not-state_in_range : goal.returns-then-not-state_in_range
-returns-then-not-state_in_range c = let h = c.loop-i in every-no _ _ (fits c.before.before.before.before.before) h.i blank_state c.loop-i-test.true state_in_range h.invariant.1 c.state_in_range.ensures c.if-not-state_in_range.true
-
-pub loop-i-preserved : goal.loop-i-preserved
-loop-i-preserved c = let h = c.loop-i in (search rules, every-yes _ _ (fits c.before.before.before.before.before) h.i blank_state c.loop-i-test.true state_in_range h.invariant.1 c.state_in_range.ensures c.if-not-state_in_range.false)
-
 pub returns : goal.returns
-returns c = every-end _ _ (fits c.before.before) _ state_in_range c.loop-i.invariant.1 c.loop-i-test.false
+returns c =
+    all_from_yields_List state_in_range _ _ _ c.all.ensures.ran (YieldsList-from_slice c.args.states.now (cc)) (λ x b q k. search (rules, tests))
+    ∙ sym (every_all state_in_range c.args.states.now)

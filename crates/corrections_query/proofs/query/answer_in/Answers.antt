@@ -1,12 +1,13 @@
 -- `corrections_query::query::answer_in` meets its contract. Assumes nothing.
+use Rattle.std.specs.Prelude.{Ok}
 use Prim.Native.Nat.{◌+◌, ◌-◌, ◌<◌, ◌≤◌}
-use mathlib.Core.Path.{◌≡◌, sym, ap, ◌∙◌}
+use mathlib.Core.Path.{◌≡◌, sym, subst, ap, ◌∙◌}
 use native.Mathlib.Omega.{arith}
 use mathlib.Core.Bool.{Bool, true, ◌&&◌}
 use Prim.Native.Nat.{ℕ}
 use mathlib.Core.List.{List}
 use lib.Ieee.{Float, nan}
-use lib.Dec.{ltb}
+use lib.Dec.{T, ltb}
 use lib.ListN.{length, get_or}
 use borrow.Author.Tests.{ltb-true}
 use Rattle.lists.proofs.Walk.{and_both}
@@ -14,7 +15,6 @@ use Rattle.corrections_directory.specs.Directory.{reading_rows}
 use Rattle.corrections_directory.proofs.ColumnLaws.{readings-length}
 use Rattle.corrections_directory.specs.Steps.{Filled}
 use Rattle.corrections_query.specs.Query.{near}
-use Rattle.corrections_query.specs.declared.query.Correction.TheVariants.{Metres}
 use Rattle.corrections_query.proofs.PlaceLaws.{lies_at}
 use Rattle.corrections_query.proofs.BlockLaws.{answer-since, answer-before, answer-ends, answer-gap, answer-line}
 use Rattle.corrections_query.proofs.query.answer_in.Goals as goal
@@ -40,7 +40,7 @@ overflow_add-end c = let w = whole c.args.table_time.now c.args.table_metres.now
 pub front_of-place-requires : goal.front_of-place-requires
 front_of-place-requires c = let s = c in
     let some = s.requires.filled.filled in
-    record { some = omega (arith, some); inside = (whole c.args.table_time.now c.args.table_metres.now c.args.first c.args.count c.requires.filled).0; falling = s.requires.falling }
+    record { some = omega (arith, some); inside = (whole c.args.table_time.now c.args.table_metres.now c.args.first c.args.count c.requires.filled).0; falling = s.requires.falling (record { column = λ j. c.type_inv.table_time j; time = subst T (sym c.well_formed.1.1.1.1.1.0.1) tt }) }
 
 pub near_since-requires : goal.near_since-requires
 near_since-requires c = (whole c.args.table_time.now c.args.table_metres.now c.args.first c.args.count c.requires.filled).0
@@ -51,8 +51,8 @@ offset_bounds-table_metres-place c = let w = whole c.args.table_time.now c.args.
 pub bounds-table_metres-place : goal.bounds-table_metres-place
 bounds-table_metres-place c = let w = whole c.args.table_time.now c.args.table_metres.now c.args.first c.args.count c.requires.filled in let r = c.front_of-place.ensures.within in let b = since {p = c.front_of-place.result} {e = c.args.first + c.args.count} (near (get_or c.args.table_time.now c.front_of-place.result nan) c.args.time) c.near_since.ensures c.if-near_since.true in omega (arith, w, r, b)
 
-pub returns-then-near_since : goal.returns-then-near_since
-returns-then-near_since c = record { is = λ e f k. answer-since _ _ _ _ _ (lies_at c.args.table_time.now c.args.table_metres.now e c.args.first c.args.count f k c.requires.filled.inside) c.args.max_gap c.args.time c.front_of-place.result c.front_of-place.ensures c.near_since.ensures c.if-near_since.true }
+pub returns-then-near_since-clause-answer : goal.returns-then-near_since-clause-answer
+returns-then-near_since-clause-answer c = record { is = λ e f k. answer-since _ _ _ _ _ (lies_at c.args.table_time.now c.args.table_metres.now e c.args.first c.args.count f k c.requires.filled.inside) c.args.max_gap c.args.time c.front_of-place.result c.front_of-place.ensures c.near_since.ensures c.if-near_since.true }
 
 pub near_before-requires : goal.near_before-requires
 near_before-requires c = let w = whole c.args.table_time.now c.args.table_metres.now c.args.first c.args.count c.requires.filled in let r = c.front_of-place.ensures.within in omega (arith, w, r)
@@ -66,11 +66,11 @@ offset_bounds-table_metres-place-then-near_before c = let w = whole c.args.table
 pub bounds-table_metres-place-then-near_before : goal.bounds-table_metres-place-then-near_before
 bounds-table_metres-place-then-near_before c = let w = whole c.args.table_time.now c.args.table_metres.now c.args.first c.args.count c.requires.filled in let r = c.front_of-place.ensures.within in let b = since {p = c.args.first} {e = c.front_of-place.result} (near (get_or c.args.table_time.now (c.front_of-place.result - 1) nan) c.args.time) c.near_before.ensures c.if-near_before.true in omega (arith, w, r, b)
 
-pub returns-then-near_before : goal.returns-then-near_before
-returns-then-near_before c = record { is = λ e f k. answer-before _ _ _ _ _ (lies_at c.args.table_time.now c.args.table_metres.now e c.args.first c.args.count f k c.requires.filled.inside) c.args.max_gap c.args.time c.front_of-place.result c.front_of-place.ensures c.near_since.ensures c.if-near_since.false c.near_before.ensures c.if-near_before.true }
+pub returns-then-near_before-clause-answer : goal.returns-then-near_before-clause-answer
+returns-then-near_before-clause-answer c = record { is = λ e f k. answer-before _ _ _ _ _ (lies_at c.args.table_time.now c.args.table_metres.now e c.args.first c.args.count f k c.requires.filled.inside) c.args.max_gap c.args.time c.front_of-place.result c.front_of-place.ensures c.near_since.ensures c.if-near_since.false c.near_before.ensures c.if-near_before.true }
 
-pub returns-then-not-place-end : goal.returns-then-not-place-end
-returns-then-not-place-end c = record { is = λ e f k. answer-ends _ _ _ _ _ (lies_at c.args.table_time.now c.args.table_metres.now e c.args.first c.args.count f k c.requires.filled.inside) c.args.max_gap c.args.time c.front_of-place.result c.front_of-place.ensures c.near_since.ensures c.if-near_since.false c.near_before.ensures c.if-near_before.false c.if-not-place-end.true }
+pub returns-then-not-place-end-clause-answer : goal.returns-then-not-place-end-clause-answer
+returns-then-not-place-end-clause-answer c = record { is = λ e f k. answer-ends _ _ _ _ _ (lies_at c.args.table_time.now c.args.table_metres.now e c.args.first c.args.count f k c.requires.filled.inside) c.args.max_gap c.args.time c.front_of-place.result c.front_of-place.ensures c.near_since.ensures c.if-near_since.false c.near_before.ensures c.if-near_before.false c.if-not-place-end.true }
 
 pub overflow_sub-a : goal.overflow_sub-a
 overflow_sub-a c = let w = whole c.args.table_time.now c.args.table_metres.now c.args.first c.args.count c.requires.filled in let r = c.front_of-place.ensures.within in let b = between {p = c.front_of-place.result} {e = c.args.first + c.args.count} {f = c.args.first} c.if-not-place-end.false in omega (arith, w, r, b)
@@ -87,8 +87,8 @@ offset_bounds-table_time-place-2 c = let w = whole c.args.table_time.now c.args.
 pub bounds-table_time-place-2 : goal.bounds-table_time-place-2
 bounds-table_time-place-2 c = let w = whole c.args.table_time.now c.args.table_metres.now c.args.first c.args.count c.requires.filled in let r = c.front_of-place.ensures.within in let b = between {p = c.front_of-place.result} {e = c.args.first + c.args.count} {f = c.args.first} c.if-not-place-end.false in omega (arith, w, r, b)
 
-pub returns-then-b-a : goal.returns-then-b-a
-returns-then-b-a c = record { is = λ e f k. answer-gap _ _ _ _ _ (lies_at c.args.table_time.now c.args.table_metres.now e c.args.first c.args.count f k c.requires.filled.inside) c.args.max_gap c.args.time c.front_of-place.result c.front_of-place.ensures c.near_since.ensures c.if-near_since.false c.near_before.ensures c.if-near_before.false c.if-not-place-end.false c.if-b-a.true }
+pub returns-then-b-a-clause-answer : goal.returns-then-b-a-clause-answer
+returns-then-b-a-clause-answer c = record { is = λ e f k. answer-gap _ _ _ _ _ (lies_at c.args.table_time.now c.args.table_metres.now e c.args.first c.args.count f k c.requires.filled.inside) c.args.max_gap c.args.time c.front_of-place.result c.front_of-place.ensures c.near_since.ensures c.if-near_since.false c.near_before.ensures c.if-near_before.false c.if-not-place-end.false c.if-b-a.true }
 
 pub overflow_sub-x : goal.overflow_sub-x
 overflow_sub-x c = let w = whole c.args.table_time.now c.args.table_metres.now c.args.first c.args.count c.requires.filled in let r = c.front_of-place.ensures.within in let b = between {p = c.front_of-place.result} {e = c.args.first + c.args.count} {f = c.args.first} c.if-not-place-end.false in omega (arith, w, r, b)
@@ -105,5 +105,5 @@ offset_bounds-table_metres-place-3 c = let w = whole c.args.table_time.now c.arg
 pub bounds-table_metres-place-3 : goal.bounds-table_metres-place-3
 bounds-table_metres-place-3 c = let w = whole c.args.table_time.now c.args.table_metres.now c.args.first c.args.count c.requires.filled in let r = c.front_of-place.ensures.within in let b = between {p = c.front_of-place.result} {e = c.args.first + c.args.count} {f = c.args.first} c.if-not-place-end.false in omega (arith, w, r, b)
 
-pub returns : goal.returns
-returns c = record { is = λ e f k. ap Metres c.line_of.ensures ∙ answer-line _ _ _ _ _ (lies_at c.args.table_time.now c.args.table_metres.now e c.args.first c.args.count f k c.requires.filled.inside) c.args.max_gap c.args.time c.front_of-place.result c.front_of-place.ensures c.near_since.ensures c.if-near_since.false c.near_before.ensures c.if-near_before.false c.if-not-place-end.false c.if-b-a.false }
+pub returns-clause-answer : goal.returns-clause-answer
+returns-clause-answer c = record { is = λ e f k. ap Ok c.line_of.ensures ∙ answer-line _ _ _ _ _ (lies_at c.args.table_time.now c.args.table_metres.now e c.args.first c.args.count f k c.requires.filled.inside) c.args.max_gap c.args.time c.front_of-place.result c.front_of-place.ensures c.near_since.ensures c.if-near_since.false c.near_before.ensures c.if-near_before.false c.if-not-place-end.false c.if-b-a.false }

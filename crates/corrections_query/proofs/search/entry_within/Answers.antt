@@ -16,12 +16,12 @@ signal_at-s-requires c = (omega arith, (omega arith, omega arith))
 
 pub loop-left-preserved : goal.loop-left-preserved
 loop-left-preserved c = let h = c.loop-left in
-    (halving_next _ _ _ c.requires.signals_split.falling h.lo h.len _ h.invariant.1.0 (rw c.signal_at-s.ensures.0 at c.choose_up_to-lo.ensures.0) h.invariant.0, (omega arith, halves h.len h.left c.loop-left-test.true h.invariant.1.1))
+    (halving_next _ _ _ c.requires.signals_split.falling h.lo h.len _ h.invariant.1.0 (rw c.signal_at-s.ensures.0 at c.choose_up_to-lo.ensures.0) h.invariant.0, (omega arith, halves h.len h._left c.loop-left-test.true h.invariant.1.1))
 
 pub returns : goal.returns
 returns c = let h = c.loop-left in
     let a = c.args in
-    let one = one_left h.len h.left c.loop-left-test.false h.invariant.1.1 in
+    let one = one_left h.len h._left c.loop-left-test.false h.invariant.1.1 in
     let some = h.invariant.1.0 in
     let w = h.invariant.0.within in
     let e : h.lo + h.len ≡ h.lo + 1 = omega (arith, one, some) in

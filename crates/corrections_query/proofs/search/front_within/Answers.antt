@@ -12,8 +12,8 @@ loop-left-init c = let s = c in
 
 pub loop-left-preserved : goal.loop-left-preserved
 loop-left-preserved c = let h = c.loop-left in
-    (halving_half _ _ _ c.requires.times_split.falling h.lo h.len _ h.invariant.1.0 c.choose_before-lo.ensures.0 h.invariant.0, (omega arith, halves h.len h.left c.loop-left-test.true h.invariant.1.1))
+    (halving_half _ _ _ c.requires.times_split.falling h.lo h.len _ h.invariant.1.0 c.choose_before-lo.ensures.0 h.invariant.0, (omega arith, halves h.len h._left c.loop-left-test.true h.invariant.1.1))
 
 pub returns : goal.returns
 returns c = let h = c.loop-left in
-    halving_end _ _ _ c.requires.times_split.falling h.lo h.len _ h.invariant.0 h.invariant.1.0 (one_left h.len h.left c.loop-left-test.false h.invariant.1.1) c.choose_before.ensures.0
+    halving_end _ _ _ c.requires.times_split.falling h.lo h.len _ h.invariant.0 h.invariant.1.0 (one_left h.len h._left c.loop-left-test.false h.invariant.1.1) c.choose_before.ensures.0

@@ -1,11 +1,7 @@
 -- `corrections_table::add::insert_all` meets its contract. Assumes nothing.
-use Prim.Native.Nat.{◌-◌}
 use Rattle.corrections_table.proofs.InsertLaws.{Inserting}
 use Rattle.corrections_table.specs.Table.{lent_samples}
 use Rattle.corrections_table.proofs.add.insert_all.Given as goal
 
 abbrev pub invariant-loop-i : goal.invariant-loop-i
 invariant-loop-i l = Inserting l.n l.m l.new (lent_samples l.initial.cs l.initial.vs l.initial.bs l.initial.ts l.initial.xs) (lent_samples l.cs l.vs l.bs l.ts l.xs) l.i
-
-abbrev pub decreases-loop-i : goal.decreases-loop-i
-decreases-loop-i l = l.m - l.i

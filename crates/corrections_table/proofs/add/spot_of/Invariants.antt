@@ -6,6 +6,3 @@ use Rattle.corrections_table.proofs.add.spot_of.Given as goal
 
 abbrev pub invariant-loop-p : goal.invariant-loop-p
 invariant-loop-p l = Spotting l.s (take l.n (rows (lent_samples l.cs l.vs l.bs l.ts l.xs))) l.n l.p
-
-abbrev pub decreases-loop-p : goal.decreases-loop-p
-decreases-loop-p l = l.p

@@ -48,9 +48,6 @@ returns-then-is_below c = let h = c.loop-i in
     let columns = lent_samples a.cs.now a.vs.now a.bs.now a.ts.now a.xs.now in
     pass-low (rows columns) a.n s.requires h.i _ h.invariant.1 c.loop-i-test.true c.signal_of-s.result (time_key c.sample_at-a.result.time) (cc) (sym (c.is_below.ensures ∙ below-place _ _ _ _) ∙ c.if-is_below.true)
 
-pub overflow_add-i : goal.overflow_add-i
-overflow_add-i c = let s = c in omega (arith, s.well_formed, s.ranges)
-
 pub loop-i-preserved : goal.loop-i-preserved
 loop-i-preserved c = let h = c.loop-i in
     let s = c in

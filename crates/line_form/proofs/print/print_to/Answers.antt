@@ -6,13 +6,13 @@ use Rattle.line_form.proofs.PrintLaws.{put-put, put_refused}
 use Rattle.line_form.proofs.print.print_to.Goals as goal
 
 pub put_vector-requires : goal.put_vector-requires
-put_vector-requires c = record { at_in_bounds = search rules; numbers = subst Printable c.in-Moved.is c.requires.printable }
+put_vector-requires c = record { at_in_bounds = search rules; numbers = subst Printable c.in-Ok.is c.requires.printable }
 
-pub returns-in-Refused : goal.returns-in-Refused
-returns-in-Refused c = rw c.in-Refused.is (put_refused _ _ c.number-number.ensures (put-put c.put_letter-a.ensures.put_bytes c.put_decimal.ensures.put_bytes))
+pub returns-in-Err : goal.returns-in-Err
+returns-in-Err c = rw c.in-Err.is (put_refused _ _ c.number-number.ensures (put-put c.put_letter-a.ensures.put_bytes c.put_decimal.ensures.put_bytes))
 
-pub returns-in-Moved : goal.returns-in-Moved
-returns-in-Moved c = rw c.in-Moved.is
-    (put-put c.put_letter-a-in-Moved.ensures.put_bytes
+pub returns-in-Ok : goal.returns-in-Ok
+returns-in-Ok c = rw c.in-Ok.is
+    (put-put c.put_letter-a-in-Ok.ensures.put_bytes
     (put-put c.put_decimal-b.ensures.put_bytes
     (put-put c.put_decimal-c.ensures.put_bytes c.put_vector.ensures)))

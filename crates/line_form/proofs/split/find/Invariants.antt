@@ -7,6 +7,3 @@ use Rattle.line_form.proofs.split.find.Given as goal
 
 abbrev pub invariant-loop-i : goal.invariant-loop-i
 invariant-loop-i l = (l.at ≤ l.i) × (l.i ≤ length l.s) × (l.i + count_before l.c (drop l.i l.s) ≡ l.at + count_before l.c (drop l.at l.s))
-
-abbrev pub decreases-loop-i : goal.decreases-loop-i
-decreases-loop-i l = length l.s - l.i

@@ -29,4 +29,4 @@ pub displacement_after-requires : goal.displacement_after-requires
 displacement_after-requires c = let t = c.args.text.now in (omega (arith, (found_lt 10 t 0 _ (omega arith) c.find-end.ensures c.if-end-n.false)), c.if-n-gt32768.false)
 
 pub returns : goal.returns
-returns c = let t = c.args.text.now in text-is t c.if-n-gt32768.false _ c.find-end.ensures (found_lt 10 t 0 _ (omega arith) c.find-end.ensures c.if-end-n.false) _ c.first_of.ensures _ c.in-Is.is _ c.displacement_after.ensures
+returns c = let t = c.args.text.now in text-is t c.if-n-gt32768.false _ c.find-end.ensures (found_lt 10 t 0 _ (omega arith) c.find-end.ensures c.if-end-n.false) _ c.first_of.ensures _ c.in-Some.is _ c.displacement_after.ensures

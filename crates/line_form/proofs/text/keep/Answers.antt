@@ -6,6 +6,6 @@ use Rattle.line_form.proofs.text.keep.Goals.{then-n-lt64, else-n-lt64}
 
 pub returns : goal.returns
 returns c = elim c.if-n-lt64.branch [
-  | then-n-lt64 w ↦ rw (w.signals-is, w.states-is, w.floats-is) (keeps-room _ _ w.if-n-lt64.true refl w.put_carrier.ensures)
-  | else-n-lt64 w ↦ rw (w.signals-is, w.states-is, w.floats-is) (keeps-full _ _ w.if-n-lt64.false refl)
+  | then-n-lt64 w ↦ rw (w.arrays-is) (keeps-room _ _ w.if-n-lt64.true refl w.put.ensures)
+  | else-n-lt64 w ↦ rw (w.arrays-is) (keeps-full _ _ w.if-n-lt64.false refl)
 ]

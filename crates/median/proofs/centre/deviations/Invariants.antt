@@ -8,6 +8,3 @@ use Rattle.median.proofs.centre.deviations.Given as goal
 
 abbrev pub invariant-loop-i : goal.invariant-loop-i
 invariant-loop-i l = (l.i ≤ length l.residuals) × (length l.k ≡ 64) × (take l.i l.k ≡ map (deviation_of l.centre) (take l.i l.residuals))
-
-abbrev pub decreases-loop-i : goal.decreases-loop-i
-decreases-loop-i l = length l.residuals - l.i

@@ -7,6 +7,3 @@ use Rattle.median.proofs.median.count_low.Given as goal
 
 abbrev pub invariant-loop-j : goal.invariant-loop-j
 invariant-loop-j l = (l.j ≤ l.n) × (l.w ≤ l.j) × (l.w ≡ length (lows l.p (take l.j l.k)))
-
-abbrev pub decreases-loop-j : goal.decreases-loop-j
-decreases-loop-j l = l.n - l.j

@@ -6,6 +6,3 @@ use Rattle.median.proofs.median.keep_low.Given as goal
 
 abbrev pub invariant-loop-j : goal.invariant-loop-j
 invariant-loop-j l = (l.j ≤ l.n) × Keeping (λ (x : ℕ). ltb x l.p) l.initial.k l.j l.w l.k
-
-abbrev pub decreases-loop-j : goal.decreases-loop-j
-decreases-loop-j l = l.n - l.j

@@ -6,6 +6,3 @@ use Rattle.median.proofs.median.part.Given as goal
 
 abbrev pub invariant-loop-j : goal.invariant-loop-j
 invariant-loop-j l = (l.j ≤ length l.patterns) × Parting l.negative l.patterns l.j l.w l.k
-
-abbrev pub decreases-loop-j : goal.decreases-loop-j
-decreases-loop-j l = length l.patterns - l.j

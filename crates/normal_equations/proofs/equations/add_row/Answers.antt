@@ -8,6 +8,3 @@ loop-j-init c = (omega arith, row-start _ _ _ _ c.requires.2)
 
 pub loop-j-preserved : goal.loop-j-preserved
 loop-j-preserved c = let h = c.loop-j in (omega arith, row_next _ _ _ _ h.j h.a (omega arith) (omega arith) h.invariant.1)
-
-pub returns : goal.returns
-returns c = let h = c.loop-j in row-end _ _ _ _ _ h.j h.a (omega arith) h.invariant.1

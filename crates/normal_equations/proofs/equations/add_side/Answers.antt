@@ -8,6 +8,3 @@ loop-i-init c = (omega arith, side-start _ _ _ c.requires.1)
 
 pub loop-i-preserved : goal.loop-i-preserved
 loop-i-preserved c = let h = c.loop-i in (omega arith, side-next _ _ _ h.i h.b (omega arith) h.invariant.1)
-
-pub returns : goal.returns
-returns c = let h = c.loop-i in side-end _ _ _ _ h.i h.b (omega arith) h.invariant.1

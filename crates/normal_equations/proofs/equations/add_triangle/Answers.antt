@@ -12,6 +12,3 @@ add_row-requires c = let h = c.loop-i in (omega arith, omega arith, triangle-squ
 
 pub loop-i-preserved : goal.loop-i-preserved
 loop-i-preserved c = let h = c.loop-i in (omega arith, c.add_row.ensures ∙ triangle-next _ _ _ h.i h.a (omega arith) h.invariant.1)
-
-pub returns : goal.returns
-returns c = let h = c.loop-i in triangle-end _ _ _ _ h.i h.a (omega arith) h.invariant.1

@@ -9,6 +9,3 @@ use Rattle.records.proofs.mask.clocks_of.Given as goal
 
 abbrev pub invariant-loop-i : goal.invariant-loop-i
 invariant-loop-i l = (l.i ≤ l.n) × (fold (λ s x. given s x.constellation) l.k (drop l.i (take l.n l.o.observation)) ≡ clocks_of (constellations (take l.n l.o.observation)))
-
-abbrev pub decreases-loop-i : goal.decreases-loop-i
-decreases-loop-i l = l.n - l.i

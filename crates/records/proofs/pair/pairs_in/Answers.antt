@@ -13,67 +13,55 @@ use Rattle.records.proofs.RecordLaws.{blank}
 use Rattle.records.proofs.KeepLaws.{every-next}
 use Rattle.records.proofs.PairLaws.{given_by, pair_not, pairs-looked}
 use Rattle.records.proofs.CarrierLaws.{carriers-long, carriers-all, carrier-is}
-use Rattle.records.proofs.PartnerLaws.{given-none, given-one}
+use Rattle.records.proofs.PartnerLaws.{given-found}
 use Rattle.records.proofs.pair.pairs_in.Goals as goal
-use Rattle.records.proofs.pair.pairs_in.Goals.{then-is_wanted+then-j-previous_signals, then-is_wanted+else-j-previous_signals, else-is_wanted}
+use Rattle.records.proofs.pair.pairs_in.Goals.{then-is_wanted+in-Some, then-is_wanted+in_default, else-is_wanted}
 
 pub loop-i-init : goal.loop-i-init
 unfolding every
-loop-i-init c = rw c.no_pairs-out.ensures.0 (refl, collecting-start _ _ _ _ _ (search length-mapped), c.no_pairs-out.ensures.1)
-
-pub carrier_in-c-requires : goal.carrier_in-c-requires
-carrier_in-c-requires c = let f = c.requires.signals_lent_2 in let t = c.loop-i-test.true in (t, f.signals _ t, omega (arith, t, f.states), omega (arith, t, f.floats))
-
-pub partner_in-j-requires : goal.partner_in-j-requires
-partner_in-j-requires c = c.requires.signals_lent
-
-pub carrier_in-p-requires : goal.carrier_in-p-requires
-carrier_in-p-requires c = let f = c.requires.signals_lent in let t = c.if-j-previous_signals.true in (t, f.signals _ t, omega (arith, t, f.states), omega (arith, t, f.floats))
+loop-i-init c = rw c.no_pairs-out.ensures.0 (collecting-start _ _ _ _ _ (search length-mapped), c.no_pairs-out.ensures.1)
 
 pub offset_bounds-out-k : goal.offset_bounds-out-k
-offset_bounds-out-k c = omega (arith, c.loop-i-test.true, c.loop-i.invariant.1.few, c.requires.signals_lent_2.few)
+offset_bounds-out-k c = omega (arith, c.loop-i-test.true, c.loop-i.invariant.0.few, c.args.current.fit.few)
 
 pub bounds-out-k : goal.bounds-out-k
-bounds-out-k c = omega (arith, c.loop-i-test.true, c.loop-i.invariant.1.few, c.requires.signals_lent_2.few)
+bounds-out-k c = omega (arith, c.loop-i-test.true, c.loop-i.invariant.0.few, c.args.current.fit.few)
 
 pub overflow_add-out : goal.overflow_add-out
-overflow_add-out c = omega (arith, c.loop-i-test.true, c.loop-i.invariant.1.few, c.requires.signals_lent_2.few)
-
-pub overflow_add-i : goal.overflow_add-i
-overflow_add-i c = omega (arith, c.loop-i-test.true, c.requires.signals_lent_2.few)
+overflow_add-out c = omega (arith, c.loop-i-test.true, c.loop-i.invariant.0.few, c.args.current.fit.few)
 
 pub loop-i-preserved : goal.loop-i-preserved
 loop-i-preserved c = let s = c in
     let a = s.args in
     let test = c.loop-i-test.true in
     let o = c.loop-i.out in
-    let inv = c.loop-i.invariant.1 in
-    let flag = c.loop-i.invariant.2 in
-    let x = c.carrier_in-c in
+    let inv = c.loop-i.invariant.0 in
+    let flag = c.loop-i.invariant.1 in
+    let x = c.carrier-c in
     let is-it = c.is_wanted.ensures in
-    let given = given_by a.receiver a.mask a.dt a.profile (carriers_in a.previous_signals.now a.previous_states.now a.previous_floats.now) in
-    let fits = carriers-long a.current_signals.now a.current_states.now a.current_floats.now in
-    let few = s.requires.signals_lent_2.few in
-    let gives = sym (ap given (carrier-is a.current_signals.now a.current_states.now a.current_floats.now test x.ensures)) in
+    let given = given_by a.receiver a.mask a.dt a.profile (carriers_in a.previous.signals.now a.previous.states.now a.previous.floats.now) in
+    let fits = carriers-long a.current.signals.now a.current.states.now a.current.floats.now in
+    let few = c.args.current.fit.few in
+    let gives = sym (ap given (carrier-is a.current.signals.now a.current.states.now a.current.floats.now test x.ensures)) in
     elim c.if-is_wanted.branch [
-      | then-is_wanted+then-j-previous_signals w ↦
-          rw w.out-is (refl, collecting-one given _ _ 64 fits few inv blank test w.pair_of-q.result (gives ∙ given-one a.receiver a.mask a.dt a.profile a.previous_signals.now a.previous_states.now a.previous_floats.now _ _ a.current_floats.now _ x.result x.ensures is-it w.if-is_wanted.true w.partner_in-j.ensures w.if-j-previous_signals.true ∙ ap (λ (p : Carrier). pair_of a.receiver a.dt x.result p ∷ []) (sym w.carrier_in-p.ensures) ∙ ap (λ (q : Pair). q ∷ []) (sym w.pair_of-q.ensures)), every-next seen o.pair o.count w.pair_of-q.result (omega (arith, inv.few, inv.long, few, test)) flag w.is_seen.ensures)
-      | then-is_wanted+else-j-previous_signals w ↦
-          rw w.out-is (refl, collecting-none given _ _ 64 fits few inv blank test (gives ∙ given-none a.receiver a.mask a.dt a.profile a.previous_signals.now a.previous_states.now a.previous_floats.now _ _ a.current_floats.now _ x.result x.ensures is-it w.if-is_wanted.true w.partner_in-j.ensures w.if-j-previous_signals.false), flag)
+      | then-is_wanted+in-Some w ↦
+          rw w.out-is (collecting-one given _ _ 64 fits few inv blank test w.pair_of-q.result (gives ∙ given-found a.receiver a.mask a.dt a.profile a.previous.signals.now a.previous.states.now a.previous.floats.now _ _ a.current.floats.now _ x.result x.ensures is-it w.if-is_wanted.true w.in-Some.ensures ∙ ap (λ (p : Carrier). pair_of a.receiver a.dt x.result p ∷ []) (sym w.carrier-p.ensures) ∙ ap (λ (q : Pair). q ∷ []) (sym w.pair_of-q.ensures)), every-next seen o.pair o.count w.pair_of-q.result (omega (arith, inv.few, inv.long, few, test)) flag w.is_seen.ensures)
+      | then-is_wanted+in_default w ↦
+          rw w.out-is (collecting-none given _ _ 64 fits few inv blank test (gives ∙ given-found a.receiver a.mask a.dt a.profile a.previous.signals.now a.previous.states.now a.previous.floats.now _ _ a.current.floats.now _ x.result x.ensures is-it w.if-is_wanted.true w.in_default.ensures), flag)
       | else-is_wanted w ↦
-          rw w.out-is (refl, collecting-none given _ _ 64 fits few inv blank test (gives ∙ pair_not a.receiver a.mask a.dt a.profile (carriers_in a.previous_signals.now a.previous_states.now a.previous_floats.now) x.result is-it w.if-is_wanted.false), flag)
+          rw w.out-is (collecting-none given _ _ 64 fits few inv blank test (gives ∙ pair_not a.receiver a.mask a.dt a.profile (carriers_in a.previous.signals.now a.previous.states.now a.previous.floats.now) x.result is-it w.if-is_wanted.false), flag)
     ]
 
 pub returns : goal.returns
 returns c = let s = c in
     let a = s.args in
-    let previous = carriers_in a.previous_signals.now a.previous_states.now a.previous_floats.now in
-    let current = carriers_in a.current_signals.now a.current_states.now a.current_floats.now in
+    let previous = carriers_in a.previous.signals.now a.previous.states.now a.previous.floats.now in
+    let current = carriers_in a.current.signals.now a.current.states.now a.current.floats.now in
     let given = given_by a.receiver a.mask a.dt a.profile previous in
-    let few = s.requires.signals_lent_2.few in
-    let e = collecting-end given current (length a.current_signals.now) 64 (carriers-long a.current_signals.now a.current_states.now a.current_floats.now) few c.loop-i.invariant.1 c.loop-i-test.false in
-    let is = ap (collect given) (carriers-all a.current_signals.now a.current_states.now a.current_floats.now) ∙ pairs-looked a.receiver a.mask a.dt a.profile previous current in
+    let few = c.args.current.fit.few in
+    let e = collecting-end given current (length a.current.signals.now) 64 (carriers-long a.current.signals.now a.current.states.now a.current.floats.now) few c.loop-i.invariant.0 c.loop-i-test.false in
+    let is = ap (collect given) (carriers-all a.current.signals.now a.current.states.now a.current.floats.now) ∙ pairs-looked a.receiver a.mask a.dt a.profile previous current in
     record {
       held = record { room = omega (arith, e.few, few); count = e.count ∙ ap length is; all = e.all ∙ is };
-      all_seen = c.loop-i.invariant.2 ∙ ap (every seen) (e.all ∙ is);
+      all_seen = c.loop-i.invariant.1 ∙ ap (every seen) (e.all ∙ is);
     }

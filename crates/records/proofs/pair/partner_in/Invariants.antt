@@ -6,7 +6,4 @@ use Rattle.records.proofs.CarrierLaws.{Sought}
 use Rattle.records.proofs.pair.partner_in.Given as goal
 
 abbrev pub invariant-loop-j : goal.invariant-loop-j
-invariant-loop-j l = (l.n ≡ length l.signals) × (l.j ≤ l.n) × Sought l.signal l.signals l.states l.floats l.j
-
-abbrev pub decreases-loop-j : goal.decreases-loop-j
-decreases-loop-j l = l.n - l.j
+invariant-loop-j l = (l.j ≤ length l.previous.signals.now) × Sought l.signal l.previous.signals.now l.previous.states.now l.previous.floats.now l.j

@@ -10,11 +10,11 @@ use Rattle.clocks.specs.Clocks.{none, given}
 use Rattle.clocks.proofs.ClocksLaws.{law}
 use Rattle.records.proofs.screen.clocks_of.Goals as goal
 
-pub loop-i-init : goal.loop-i-init
-loop-i-init c = let s = c.args in (search rules, rw c.new-k.ensures (ap (fold given none) (take_all (length s.constellation.now) s.constellation.now (omega arith)) ∙ law _))
+pub loop-c-init : goal.loop-c-init
+loop-c-init c = let s = c.args in (rw c.new-k.ensures (ap (fold given none) (take_all (length s.constellation.now) s.constellation.now (omega arith)) ∙ law _))
 
-pub loop-i-preserved : goal.loop-i-preserved
-loop-i-preserved c = let h = c.loop-i in (search rules, rw c.given-k.ensures (fold-turn _ _ (omega arith) h.i 0 c.loop-i-test.true given h.k h.invariant.1))
+pub loop-c-preserved : goal.loop-c-preserved
+loop-c-preserved c = let h = c.loop-c in (rw c.given-k.ensures (fold-turn _ _ (omega arith) h.c-index 0 c.loop-c-test.true given h.k h.invariant))
 
 pub returns : goal.returns
-returns c = fold_end _ _ (omega arith) _ given c.loop-i.invariant.1 c.loop-i-test.false
+returns c = fold_end _ _ (omega arith) _ given c.loop-c.invariant c.loop-c-test.false

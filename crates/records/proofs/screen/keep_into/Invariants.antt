@@ -10,11 +10,5 @@ use Rattle.records.proofs.screen.keep_into.Given as goal
 abbrev pub invariant-loop-i : goal.invariant-loop-i
 invariant-loop-i l = (l.i ≤ l.n) × (length l.d ≡ 64) × (take l.i l.d ≡ detectors (take l.i l.p.pair))
 
-abbrev pub decreases-loop-i : goal.decreases-loop-i
-decreases-loop-i l = l.n - l.i
-
 abbrev pub invariant-loop-j : goal.invariant-loop-j
 invariant-loop-j l = Gathered l.screen l.c l.p.pair l.n l.x l.y l.z l.constellation l.elevation l.observed l.k l.j
-
-abbrev pub decreases-loop-j : goal.decreases-loop-j
-decreases-loop-j l = l.n - l.j

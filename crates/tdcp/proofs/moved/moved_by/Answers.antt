@@ -3,6 +3,7 @@ use mathlib.Core.Path.{◌≡◌, refl, sym, ap₂, ◌∙◌}
 use native.Mathlib.Omega.{arith}
 use Prim.Native.Nat.{ℕ, ◌≤◌}
 use mathlib.Core.List.{List}
+use Rattle.std.proofs.lemmas.Result.{err_from_is_err_and}
 use lib.ListN.{length, take, length-take}
 use Rattle.records.specs.declared.pair.Pair.{Pair}
 use lib.Seq.{length-take-le}
@@ -28,8 +29,8 @@ slice_bounds-clocks_of-end c = let k = c.keep_into-used.ensures in sym (length-t
 pub slice_bounds-is_uncertified-end : goal.slice_bounds-is_uncertified-end
 slice_bounds-is_uncertified-end c = let k = c.keep_into-used.ensures in sym (length-take-le _ _ (omega (arith, k.room, k.constellation-long)))
 
-pub returns-in-Refused : goal.returns-in-Refused
-returns-in-Refused c = let t = c in let s = t.args in let k = c.keep_into-used.ensures in refused_as s.wanted (quality_by s.settings (take s.all.count s.all.pair)) (refused-counts (is_city s.profile) s.settings (take s.all.count s.all.pair) s.all.count (long s.all.count s.all.pair c.requires.0 (search (length-mapped, c.well_formed.1.0))) (all_seen _ c.requires.1 c.if-not-seen.false) _ k c.clocks_of-clocks.ensures c.is_uncertified-uncertified.ensures (sym c.in-Refused.is ∙ c.check_pairs.ensures))
+pub returns-in_err-check_pairs : goal.returns-in_err-check_pairs
+returns-in_err-check_pairs c = let t = c in let s = t.args in let k = c.keep_into-used.ensures in let p = err_from_is_err_and c.from_residual.result c.from_residual.ensures.1 in rw (p.1, p.2) (refused_as s.wanted (quality_by s.settings (take s.all.count s.all.pair)) (refused-counts (is_city s.profile) s.settings (take s.all.count s.all.pair) s.all.count (long s.all.count s.all.pair c.requires.0 (search (length-mapped, c.well_formed.1.0))) (all_seen _ c.requires.1 c.if-not-seen.false) _ k c.clocks_of-clocks.ensures c.is_uncertified-uncertified.ensures (sym c.in_err-check_pairs.was ∙ c.check_pairs.ensures)))
 
 pub slice_bounds-moved_over-end : goal.slice_bounds-moved_over-end
 slice_bounds-moved_over-end c = let k = c.keep_into-used.ensures in sym (length-take-le _ _ (omega (arith, k.room, k.observed-long)))
@@ -44,10 +45,10 @@ pub moved_over-requires : goal.moved_over-requires
 moved_over-requires c = let t = c in
     let s = t.args in
     let k = c.keep_into-used.ensures in
-    (simp length-take (omega (arith, k.room)), few-clocks (is_city s.profile) s.settings (take s.all.count s.all.pair) s.all.count (long s.all.count s.all.pair c.requires.0 (search (length-mapped, c.well_formed.1.0))) (all_seen _ c.requires.1 c.if-not-seen.false) _ k c.clocks_of-clocks.ensures c.is_uncertified-uncertified.ensures (sym c.in_default.is ∙ c.check_pairs.ensures))
+    (simp length-take (omega (arith, k.room)), few-clocks (is_city s.profile) s.settings (take s.all.count s.all.pair) s.all.count (long s.all.count s.all.pair c.requires.0 (search (length-mapped, c.well_formed.1.0))) (all_seen _ c.requires.1 c.if-not-seen.false) _ k c.clocks_of-clocks.ensures c.is_uncertified-uncertified.ensures (sym c.in_ok-check_pairs.was ∙ c.check_pairs.ensures))
 
 pub returns : goal.returns
 returns c = let t = c in
     let s = t.args in
     let k = c.keep_into-used.ensures in
-    c.moved_over.ensures ∙ ap₂ (answered_by s.wanted) (quality-over (is_city s.profile) s.settings (take s.all.count s.all.pair) s.all.count (long s.all.count s.all.pair c.requires.0 (search (length-mapped, c.well_formed.1.0))) (all_seen _ c.requires.1 c.if-not-seen.false) _ k c.clocks_of-clocks.ensures c.is_uncertified-uncertified.ensures (sym c.in_default.is ∙ c.check_pairs.ensures)) (over (is_city s.profile) s.settings (take s.all.count s.all.pair) s.all.count (long s.all.count s.all.pair c.requires.0 (search (length-mapped, c.well_formed.1.0))) (all_seen _ c.requires.1 c.if-not-seen.false) _ k c.clocks_of-clocks.ensures c.is_uncertified-uncertified.ensures (sym c.in_default.is ∙ c.check_pairs.ensures) refl)
+    c.moved_over.ensures ∙ ap₂ (answered_by s.wanted) (quality-over (is_city s.profile) s.settings (take s.all.count s.all.pair) s.all.count (long s.all.count s.all.pair c.requires.0 (search (length-mapped, c.well_formed.1.0))) (all_seen _ c.requires.1 c.if-not-seen.false) _ k c.clocks_of-clocks.ensures c.is_uncertified-uncertified.ensures (sym c.in_ok-check_pairs.was ∙ c.check_pairs.ensures)) (over (is_city s.profile) s.settings (take s.all.count s.all.pair) s.all.count (long s.all.count s.all.pair c.requires.0 (search (length-mapped, c.well_formed.1.0))) (all_seen _ c.requires.1 c.if-not-seen.false) _ k c.clocks_of-clocks.ensures c.is_uncertified-uncertified.ensures (sym c.in_ok-check_pairs.was ∙ c.check_pairs.ensures) refl)

@@ -6,8 +6,8 @@ use Rattle.tdcp.proofs.moved.moved_to.Goals as goal
 
 pub returns-then-is_finite : goal.returns-then-is_finite
 unfolding end_rules finite_at ruled
-returns-then-is_finite c = rw (rw (c.is_finite.ensures, c.is_finite-2.ensures, c.is_finite-3.ensures) at c.if-is_finite.true)
+returns-then-is_finite c = rw (rw c.is_finite.ensures at c.if-is_finite.true)
 
 pub returns : goal.returns
 unfolding end_rules finite_at ruled
-returns c = rw (rw (c.is_finite.ensures, c.is_finite-2.ensures, c.is_finite-3.ensures) at c.if-is_finite.false)
+returns c = rw (rw c.is_finite.ensures at c.if-is_finite.false)

@@ -8,13 +8,8 @@ use Rattle.tdcp.proofs.DisplacementLaws.{rows_in_lem}
 use Rattle.tdcp.proofs.RatedLaws.{quality-made}
 use Rattle.tdcp.proofs.rating.quality_at.Goals as goal
 
-pub slice_bounds-quality_of-end : goal.slice_bounds-quality_of-end
-slice_bounds-quality_of-end c = sym (length-take-le _ _ (omega (arith, c.residuals_at.ensures.long, c.requires.0)))
-
-pub quality_of-requires : goal.quality_of-requires
-quality_of-requires c = let s = c in
-    let e = length-take-le (length s.args.observed.now) c.residuals_at.new.residual (omega (arith, c.residuals_at.ensures.long, s.requires.0)) in
-    (omega (arith, e, s.requires.0), s.requires.1, s.requires.2)
+pub slice_bounds-rows-end : goal.slice_bounds-rows-end
+slice_bounds-rows-end c = sym (length-take-le _ _ (omega (arith, c.residuals_at.ensures.long, c.requires.0)))
 
 pub returns : goal.returns
 returns c = let t = c in

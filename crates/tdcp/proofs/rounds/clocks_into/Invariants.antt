@@ -13,6 +13,3 @@ clock_at k constellation i = slot k (get_or constellation i 0)
 
 abbrev pub invariant-loop-j : goal.invariant-loop-j
 invariant-loop-j l = (l.j ≤ l.count) × Filled (clock_at l.k l.constellation) 0 l.j l.clock
-
-abbrev pub decreases-loop-j : goal.decreases-loop-j
-decreases-loop-j l = l.count - l.j

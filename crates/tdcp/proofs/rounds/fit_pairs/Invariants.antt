@@ -19,6 +19,3 @@ ForPairs settings k clock sigma observed P =
 abbrev pub invariant-loop-i : goal.invariant-loop-i
 invariant-loop-i l = (l.i ≤ l.settings.rounds) × (l.state ≡ l.initial.state) × (length l.residual ≡ 64)
     × ForPairs l.settings l.k l.clock l.sigma l.observed (λ constellation elevation. Going l.settings l.k (pairs_in l.x l.y l.z constellation elevation l.observed) l.i l.at)
-
-abbrev pub decreases-loop-i : goal.decreases-loop-i
-decreases-loop-i l = l.settings.rounds - l.i

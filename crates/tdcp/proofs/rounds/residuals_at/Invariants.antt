@@ -13,6 +13,3 @@ residual_at x y z clock observed s i = residual_of (get_or observed i nan) (get_
 
 abbrev pub invariant-loop-j : goal.invariant-loop-j
 invariant-loop-j l = (l.j ≤ l.count) × Filled (residual_at l.x l.y l.z l.clock l.observed l.at) 0 l.j l.residual
-
-abbrev pub decreases-loop-j : goal.decreases-loop-j
-decreases-loop-j l = l.count - l.j

@@ -14,6 +14,3 @@ sigma_at settings elevation i = elevation_sigma (get_or elevation i nan) setting
 
 abbrev pub invariant-loop-j : goal.invariant-loop-j
 invariant-loop-j l = (l.j ≤ l.count) × Filled (sigma_at l.settings l.elevation) nan l.j l.sigma
-
-abbrev pub decreases-loop-j : goal.decreases-loop-j
-decreases-loop-j l = l.count - l.j

@@ -1,5 +1,6 @@
 -- `tdcp::valid::seconds_of` meets its contract: each answer follows from the tests on the way to it. Assumes nothing.
 use mathlib.Core.Path.{sym, ◌∙◌}
+use Rattle.std.proofs.lemmas.Result.{err_from_is_err_and}
 use Rattle.numeric.specs.Rules.{ruled}
 use Rattle.tdcp.specs.Steps.{given_rules}
 use Rattle.tdcp.proofs.IntervalLaws.{not_timed, bad_interval_lem, good_interval}
@@ -17,16 +18,17 @@ pub returns-then-is_bad_interval : goal.returns-then-is_bad_interval
 returns-then-is_bad_interval c = let a = c in
     let e = a in
     bad_interval_lem _ _ (sym e.settings_pass.ensures ∙ e.if-not-settings_pass.false) a.if-not-sound.false
-    (sym c.in-Since.is ∙ a.apart-seconds.ensures) (sym c.is_bad_interval.ensures ∙ c.if-is_bad_interval.true)
+    (sym c.in_ok-dt.was ∙ a.apart.ensures) (sym c.is_bad_interval.ensures ∙ c.if-is_bad_interval.true)
 
-pub returns-in-Refused : goal.returns-in-Refused
-returns-in-Refused c = let a = c in
+pub returns-in_err-dt : goal.returns-in_err-dt
+returns-in_err-dt c = let a = c in
     let e = a in
-    not_timed _ _ (sym e.settings_pass.ensures ∙ e.if-not-settings_pass.false) a.if-not-sound.false
-    (sym c.in-Refused.is ∙ a.apart-seconds.ensures)
+    let p = err_from_is_err_and c.from_residual.result c.from_residual.ensures.1 in rw (p.1, p.2)
+    (not_timed _ _ (sym e.settings_pass.ensures ∙ e.if-not-settings_pass.false) a.if-not-sound.false
+    (sym c.in_err-dt.was ∙ a.apart.ensures))
 
-pub returns-else-is_bad_interval : goal.returns-else-is_bad_interval
-returns-else-is_bad_interval c = let a = c in
+pub returns : goal.returns
+returns c = let a = c in
     let e = a in
     good_interval _ _ (sym e.settings_pass.ensures ∙ e.if-not-settings_pass.false) a.if-not-sound.false
-    (sym c.in-Since.is ∙ a.apart-seconds.ensures) (sym c.is_bad_interval.ensures ∙ c.if-is_bad_interval.false)
+    (sym c.in_ok-dt.was ∙ a.apart.ensures) (sym c.is_bad_interval.ensures ∙ c.if-is_bad_interval.false)

@@ -15,11 +15,9 @@ pub returns-then-not-epoch_fits : goal.returns-then-not-epoch_fits
 returns-then-not-epoch_fits c = record { fits = sym c.if-not-epoch_fits.true ∙ c.epoch_fits.ensures; signalled = λ h. absurd (no h) }
 
 pub signals_into-requires : goal.signals_into-requires
-signals_into-requires c = let e = c in
-    let s = e in
-    let a = s.args in
-    let p = carriers-room (carrier_columns a.constellation.now a.svid.now a.band.now a.state.now a.floats.now) a.n e.epoch_fits.ensures e.if-not-epoch_fits.false in
-    (p.few, p.constellation, p.svid, p.band, search rules)
+signals_into-requires c = let a = c.args.columns in
+    let p = carriers-room (carrier_columns a.constellation.now a.svid.now a.band.now a.state.now a.floats.now) a.count c.epoch_fits.ensures c.if-not-epoch_fits.false in
+    record { few = p.few; constellation = p.constellation; svid = p.svid; band = p.band; room = search rules }
 
 pub returns : goal.returns
 returns c = let e = c in

@@ -1,16 +1,14 @@
 -- `tdcp_columns::lent::rated_into` meets its contract. Assumes nothing.
-use mathlib.Core.Path.{refl}
+use mathlib.Core.Path.{◌∙◌}
+use Rattle.tdcp_columns.proofs.AnswerLaws.{number-plain}
 use Rattle.tdcp_columns.proofs.lent.rated_into.Goals as goal
 
-pub returns-in-Moved : goal.returns-in-Moved
-returns-in-Moved c = let p = c in
-    rw p.in-Moved.is
-    (record {
-      number_is = refl;
-      delta-is = rw (p.pattern-x.ensures, p.pattern-y.ensures, p.pattern-z.ensures);
-      quality-is = rw (p.pattern-chi.ensures, p.pattern-pdop.ensures);
-      counts-are = refl;
-    })
+pub returns-in-Ok : goal.returns-in-Ok
+returns-in-Ok c =
+    let h = c.answer_into-number.ensures in
+    record { number_is = h.number_is ∙ number-plain _; delta-is = h.delta-is; quality-is = rw (c.in-Ok.is, c.pattern-chi.ensures, c.pattern-pdop.ensures); counts-are = h.counts-are }
 
-pub returns-in-Refused : goal.returns-in-Refused
-returns-in-Refused c = rw c.in-Refused.is (record { number_is = c.number.ensures; delta-is = refl; quality-is = refl; counts-are = refl })
+pub returns-in_default : goal.returns-in_default
+returns-in_default c =
+    let h = c.answer_into-number.ensures in
+    record { number_is = h.number_is ∙ number-plain _; delta-is = h.delta-is; quality-is = rw c.in_default.is; counts-are = h.counts-are }

@@ -13,14 +13,5 @@ float_from_bits-r c = readable _ c.requires.1.second
 pub returns-then-not-d-r : goal.returns-then-not-d-r
 returns-then-not-d-r c = anchor_left _ _ _ _ c.if-not-d-r.true
 
-pub float_to_bits-w : goal.float_to_bits-w
-float_to_bits-w c = first-writable _ _ c.if-not-d-r.false
-
-pub float_to_bits-w-2 : goal.float_to_bits-w-2
-float_to_bits-w-2 c = second-writable _ _ c.if-not-d-r.false
-
-pub bounds-w-at-4 : goal.bounds-w-at-4
-bounds-w-at-4 c = simp length-set (omega arith)
-
 pub returns : goal.returns
 returns c = anchor_stored _ _ _ _ c.if-not-d-r.false

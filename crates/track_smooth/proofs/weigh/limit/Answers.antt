@@ -3,6 +3,3 @@ use Rattle.track_smooth.proofs.weigh.limit.Goals as goal
 
 pub returns-then-h-c : goal.returns-then-h-c
 returns-then-h-c c = some-limit _ _ c.sqrt-z.ensures c.if-h-c.true
-
-pub returns : goal.returns
-returns c = no-limit _

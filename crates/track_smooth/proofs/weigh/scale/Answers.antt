@@ -6,9 +6,9 @@ use lib.Ieee.{binary64}
 use mathlib.Core.Path.{◌∙◌, ap}
 use Rattle.track_smooth.proofs.weigh.scale.Goals as goal
 
-pub returns-then-q-c : goal.returns-then-q-c
+pub returns-then-q-most : goal.returns-then-q-most
 unfolding square
-returns-then-q-c c = scale-near _ _ _ c.requires.2 (add-fits binary64 _ _) c.if-q-c.true
+returns-then-q-most c = scale-near _ _ _ c.requires.2 c.in-Some.is (add-fits binary64 _ _) c.if-q-most.true
 
 pub returns : goal.returns
 unfolding square

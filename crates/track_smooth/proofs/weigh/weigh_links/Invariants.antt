@@ -1,13 +1,10 @@
 use Rattle.track_smooth.specs.Steps.{Weighed, fit_in}
 use Rattle.track_smooth.specs.Track.{link_scale}
-use Rattle.track_pass.specs.Input.{measured}
+use Rattle.track_pass.specs.Input.{measured_in}
 use lib.ListN.{length}
-use Prim.Native.Nat.{◌-◌, ◌≤◌}
+use Prim.Native.Nat.{◌≤◌}
 use mathlib.Core.Path.{◌≡◌}
 use Rattle.track_smooth.proofs.weigh.weigh_links.Given as goal
 
 abbrev pub invariant-loop-j : goal.invariant-loop-j
-invariant-loop-j l = (l.j ≤ l.count) × (length l.w ≡ length l.initial.w) × Weighed (link_scale (measured l.count l.index l.value l.sigma) l.h (fit_in l.r)) l.from l.j l.initial.w l.w
-
-abbrev pub decreases-loop-j : goal.decreases-loop-j
-decreases-loop-j l = l.count - l.j
+invariant-loop-j l = (l.j ≤ l.links.count) × (length l.w ≡ length l.initial.w) × Weighed (link_scale (measured_in l.links) l.h (fit_in l.r)) l.from l.j l.initial.w l.w

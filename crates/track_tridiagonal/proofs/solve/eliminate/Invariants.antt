@@ -1,9 +1,5 @@
 use Rattle.track_tridiagonal.proofs.Elimination.{Eliminating}
-use Prim.Native.Nat.{◌-◌}
 use Rattle.track_tridiagonal.proofs.solve.eliminate.Given as goal
 
-abbrev pub invariant-loop-x : goal.invariant-loop-x
-invariant-loop-x l = Eliminating l.initial.w l.n l.i l.w l.x l.y l.z
-
-abbrev pub decreases-loop-x : goal.decreases-loop-x
-decreases-loop-x l = l.n - l.i
+abbrev pub invariant-loop-i : goal.invariant-loop-i
+invariant-loop-i l = Eliminating l.initial.w l.n l.i l.w l.x l.y l.z

@@ -14,17 +14,5 @@ float_from_bits-d c = readable _ c.requires.1.second
 pub float_from_bits-r : goal.float_from_bits-r
 float_from_bits-r c = readable _ c.requires.1.third
 
-pub returns-then-not-good : goal.returns-then-not-good
-returns-then-not-good c = row_ends _ _ _ _ refl refl c.goes_on-good.ensures c.if-not-good.true
-
-pub float_to_bits-w : goal.float_to_bits-w
-float_to_bits-w c = pivot-writable _ _ _ (sym c.goes_on-good.ensures ∙ c.if-not-good.false)
-
-pub float_to_bits-w-2 : goal.float_to_bits-w-2
-float_to_bits-w-2 c = right-writable _ _ _ (sym c.goes_on-good.ensures ∙ c.if-not-good.false)
-
-pub bounds-w-at-5 : goal.bounds-w-at-5
-bounds-w-at-5 c = simp length-set (omega arith)
-
 pub returns : goal.returns
 returns c = row_goes _ _ _ _ refl refl c.goes_on-good.ensures c.if-not-good.false

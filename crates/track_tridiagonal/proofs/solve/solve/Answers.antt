@@ -8,6 +8,3 @@ substitute-requires c = let l = c.eliminate.ensures.left c.if-eliminate.true in
 
 pub returns-then-eliminate : goal.returns-then-eliminate
 returns-then-eliminate c = solved _ _ _ _ _ c.requires.0 c.eliminate.ensures c.if-eliminate.true _ c.substitute.ensures
-
-pub returns : goal.returns
-returns c = unsolved _ _ _ _ c.eliminate.ensures c.if-eliminate.false

@@ -13,9 +13,6 @@ float_from_bits-u c = readable _ c.requires.1.second
 pub float_from_bits-r : goal.float_from_bits-r
 float_from_bits-r c = readable _ c.requires.1.third
 
-pub returns-then-not-is_finite : goal.returns-then-not-is_finite
-returns-then-not-is_finite c = row-left _ _ _ _ _ c.unknown-v.ensures (sym c.is_finite.ensures ∙ c.if-not-is_finite.true)
-
 pub float_to_bits-w : goal.float_to_bits-w
 float_to_bits-w c = finite-writable _ (sym c.is_finite.ensures ∙ c.if-not-is_finite.false)
 

@@ -3,6 +3,3 @@ use Rattle.track_tridiagonal.proofs.solve.substitute.Given as goal
 
 abbrev pub invariant-loop-k : goal.invariant-loop-k
 invariant-loop-k l = Substituting l.initial.w l.n l.k l.w l.x l.y l.z
-
-abbrev pub decreases-loop-k : goal.decreases-loop-k
-decreases-loop-k l = l.k

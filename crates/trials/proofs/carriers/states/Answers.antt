@@ -12,7 +12,7 @@ use Rattle.median.specs.Sorted.{insert_by, sorted_by, median_of}
 use Rattle.median.specs.Centre.{centre_of}
 use Rattle.numeric.specs.Rules.{ruled}
 use Rattle.estimate_rounds.specs.Rules.{row_rules}
-use Rattle.records.specs.Record.{placeable, is_elevation, sound_carrier, unsigned, bit_set, usable, same}
+use Rattle.records.specs.Record.{is_elevation, sound_carrier, unsigned, bit_set, usable, same}
 use Rattle.clocks.specs.Clocks.{has, appearing, slot_from, clocks_in, clocks_of}
 use Rattle.records.specs.Pair.{pair_of, first_pair, pair_at, pairs_of}
 use Rattle.records.specs.Screen.{centre, within, kept_of}
@@ -32,7 +32,7 @@ record Used : Type 0 where
   in-minus-1 : used_of (displacement_of (six_in (negsuc 0))) ≡ 0
 
 used : Used
-unfolding displacement_of moved_by end_rules finite_at fit_by fit_over fit_from ruled every first collect abs in_range placeable is_elevation sound_carrier unsigned bit_set usable same has appearing slot_from clocks_in clocks_of pair_of first_pair pair_at pairs_of centre within kept_of settings_pass bad_interval epoch_rules interval_rules few_rules row_rules pair_rules sight_rules count_rules city_rules on_receiver sight_of gap along turned travel_angle travel_sine travel_cosine norm vec-minus root_of sign exponent digits is_nan_pattern is_quiet payload payload_order unordered total_order pattern_of insert_by sorted_by median_of centre_of of_int of_bits to_bits neg add sub mul div le lt eq is_nan
+unfolding displacement_of moved_by end_rules finite_at fit_by fit_over fit_from ruled every first collect abs in_range is_elevation sound_carrier unsigned bit_set usable same has appearing slot_from clocks_in clocks_of pair_of first_pair pair_at pairs_of centre within kept_of settings_pass bad_interval epoch_rules interval_rules few_rules row_rules pair_rules sight_rules count_rules city_rules on_receiver sight_of gap along turned travel_angle travel_sine travel_cosine norm vec-minus root_of sign exponent digits is_nan_pattern is_quiet payload payload_order unordered total_order pattern_of insert_by sorted_by median_of centre_of of_int of_bits to_bits neg add sub mul div le lt eq is_nan
 used = record { in-1 = refl; in-0 = refl; in-3 = refl; in-5 = refl; in-minus-1 = refl }
 
 pub returns : goal.returns

@@ -8,7 +8,8 @@ use lib.ListN.{get_or}
 use lib.Ieee.{is_nan, to_bits, of_int}
 use Rattle.numeric.specs.Order.{pattern_of}
 use Rattle.exact.specs.Float.{whole}
-use Rattle.track_smooth.specs.Answer.{Tracked, Points, track_answer, track_number, track_result_after}
+use Rattle.track_smooth.specs.Answer.{Tracked, Points, track_answer, track_result_after}
+use Rattle.numeric.specs.Refusal.{answer_number}
 use Rattle.track_smooth.proofs.Trials.{one-point}
 use Rattle.trials.specs.Steps.{Tells}
 use Rattle.trials.proofs.track.one_point.Goals as goal
@@ -23,7 +24,7 @@ passes r = refl
 -- the number n and the result r' of a call that gives the point
 found : (n : ℕ) (r r' : List ℕ) (t : Tracked) → t ≡ Points (whole 5 ∷ whole 6 ∷ whole 7 ∷ []) → Tells t r n r' → test n r' ≡ true
 found n r r' t e h =
-    ap (λ (k : ℕ). test k r') (h.number_is ∙ ap (λ (t : Tracked). track_number (track_answer t)) e)
+    ap (λ (k : ℕ). test k r') (h.number_is ∙ ap (λ (t : Tracked). answer_number (track_answer t)) e)
     ∙ ap (test 0) (h.result-is ∙ ap (λ (t : Tracked). track_result_after t r) e)
     ∙ passes r
 

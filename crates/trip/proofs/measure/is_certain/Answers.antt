@@ -8,11 +8,5 @@ use Rattle.trip.proofs.measure.is_certain.Goals as goal
 small : (c : goal.Start) → c.args.a * c.args.a ≤ 2 ^ 27 * 2 ^ 27
 small c = mul-le-mul (le_of_lt c.requires.2) (le_of_lt c.requires.2)
 
-pub overflow_mul-square : goal.overflow_mul-square
-overflow_mul-square c = omega (arith, small c)
-
-pub overflow_add-result : goal.overflow_add-result
-overflow_add-result c = omega (arith, small c)
-
 pub returns : goal.returns
 returns c = tested c.args.b c.requires.0 c.requires.1 c.args.a

@@ -5,6 +5,3 @@ use Rattle.trip.proofs.measure.millimetres.Goals as goal
 
 pub whole_times-requires : goal.whole_times-requires
 whole_times-requires c = (lit≤ tt, c.requires.0, below-limit c.args.length c.requires.1)
-
-pub returns : goal.returns
-returns c = c.whole_times.ensures

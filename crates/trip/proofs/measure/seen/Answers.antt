@@ -5,6 +5,7 @@ use lib.Dec.{T}
 use lib.Ieee.{binary64, fits}
 use Rattle.root.specs.Root.{root_of}
 use Rattle.root.proofs.Reading.{by_bits, lt-number}
+use Rattle.std.proofs.lemmas.Option.{same_Some}
 use Rattle.trip.specs.Steps.{way_of}
 use Rattle.trip.proofs.WayLaws.{pattern_in_lem}
 use Rattle.trip.proofs.measure.seen.Goals as goal
@@ -19,9 +20,6 @@ Start = lts.Start tie.the-claims reads.Pre reads.Post
 held : (c : Start) → T (fits binary64 c.args.square)
 held c = subst T (sym c.well_formed.0.1) tt
 
-pub float_to_bits-b : goal.float_to_bits-b
-float_to_bits-b c = lt-number c.args.square _ c.if-square-2.true
-
 pub guess-a-requires : goal.guess-a-requires
 guess-a-requires c = let s = c in omega (arith, (pattern_in_lem s.args.square (held s.before.before) c.if-square.true c.if-square-2.true).1)
 
@@ -33,13 +31,5 @@ is_certain-requires c = let d = c in
 
 pub returns-then-is_certain : goal.returns-then-is_certain
 returns-then-is_certain c = let s = c in
-    λ h. c.is_certain.ensures c.if-is_certain.true ∙ ap (λ x. way_of (root_of x)) (by_bits s.args.square _ (held s.before.before.before.before.before) refl)
-
-pub returns-else-is_certain : goal.returns-else-is_certain
-returns-else-is_certain c = λ h. absurd (omega arith)
-
-pub returns-else-square-2 : goal.returns-else-square-2
-returns-else-square-2 c = λ h. absurd (omega arith)
-
-pub returns-else-square : goal.returns-else-square
-returns-else-square c = λ h. absurd (omega arith)
+    λ way e. sym (same_Some _ _ e) ∙ c.is_certain.ensures c.if-is_certain.true
+    ∙ ap (λ x. way_of (root_of x)) (by_bits s.args.square _ (held s.before.before.before.before.before) refl)

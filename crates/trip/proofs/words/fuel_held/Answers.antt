@@ -1,10 +1,12 @@
 -- `trip::words::fuel_held` meets its contract. Assumes nothing.
-use mathlib.Core.Path.{sym, ◌∙◌}
-use Rattle.trip.proofs.WordLaws.{fuel-held-refused, fuel-held-goes}
+use Rattle.std.proofs.Common.{rules}
+use Rattle.trip.specs.Words.{fuelled_held}
 use Rattle.trip.proofs.words.fuel_held.Goals as goal
 
-pub returns-in-Refused : goal.returns-in-Refused
-returns-in-Refused c = let b = c in fuel-held-refused _ _ _ (sym b.in-Refused.is ∙ b.held-before.ensures)
+pub returns-in_err-try_from : goal.returns-in_err-try_from
+unfolding fuelled_held
+returns-in_err-try_from c = search rules
 
-pub returns-in-Goes : goal.returns-in-Goes
-returns-in-Goes c = let b = c in fuel-held-goes _ _ _ c.fuel.ensures (sym b.in-Goes.is ∙ b.held-before.ensures)
+pub returns : goal.returns
+unfolding fuelled_held
+returns c = search rules

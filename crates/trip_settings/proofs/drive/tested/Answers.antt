@@ -1,14 +1,16 @@
 -- `trip_settings::drive::tested` meets its contract. Assumes nothing.
-use mathlib.Core.Path.{sym, ◌∙◌}
-use mathlib.Core.Bool.{true, false}
-use Rattle.trip_settings.proofs.DriveLaws.{tested-by, tested_not}
+use Rattle.std.proofs.Common.{rules}
+use Rattle.trip_settings.specs.Drive.{tested}
 use Rattle.trip_settings.proofs.drive.tested.Goals as goal
 
-pub returns-in-Refused : goal.returns-in-Refused
-returns-in-Refused c = tested_not c.in-Refused.is
+pub returns-in_err-trip : goal.returns-in_err-trip
+unfolding tested
+returns-in_err-trip c = search rules
 
-pub returns-then-is_sound : goal.returns-then-is_sound
-returns-then-is_sound c = tested-by true c.in-Goes.is (sym c.if-is_sound.true ∙ c.is_sound.ensures)
+pub returns-then-not-is_sound : goal.returns-then-not-is_sound
+unfolding tested
+returns-then-not-is_sound c = rw (c.in_ok-trip.was, ← c.is_sound.ensures, c.if-not-is_sound.true)
 
-pub returns-else-is_sound : goal.returns-else-is_sound
-returns-else-is_sound c = tested-by false c.in-Goes.is (sym c.if-is_sound.false ∙ c.is_sound.ensures)
+pub returns : goal.returns
+unfolding tested
+returns c = rw (c.in_ok-trip.was, ← c.is_sound.ensures, c.if-not-is_sound.false)

@@ -1,20 +1,21 @@
 -- `trip_settings::drive::travel_by` meets its contract. Assumes nothing.
-use mathlib.Core.Path.{sym, ◌∙◌}
-use Rattle.trip_settings.proofs.DriveLaws.{by-still, by-held, by-added}
+use Rattle.std.proofs.Common.{rules}
+use Rattle.trip.specs.Words.{added_held}
+use Rattle.trip_settings.specs.Drive.{travel_by}
 use Rattle.trip_settings.proofs.drive.travel_by.Goals as goal
 
-pub returns-in-Refused : goal.returns-in-Refused
-returns-in-Refused c = by-still _ _ c.in-Refused.is
+pub returns-in_err-moved : goal.returns-in_err-moved
+unfolding travel_by added_held
+returns-in_err-moved c = search rules
 
-pub returns-in-Refused-held : goal.returns-in-Refused-held
-returns-in-Refused-held c = by-held _ c.in-Moved.is c.in-Refused-held.is
+pub returns-in_err-before : goal.returns-in_err-before
+unfolding travel_by added_held
+returns-in_err-before c = search rules
 
-pub returns-in-Refused-after : goal.returns-in-Refused-after
-returns-in-Refused-after c = let a = c in
-    let h = a in
-    by-added _ h.in-Moved.is h.in-Goes.is (sym c.in-Refused-after.is ∙ a.add-after.ensures.is)
+pub returns-in_err-trip : goal.returns-in_err-trip
+unfolding travel_by added_held
+returns-in_err-trip c = rw (c.in_ok-moved.was, c.in_ok-before.was, ← c.add.ensures.is) (search rules)
 
-pub returns-in-Goes-after : goal.returns-in-Goes-after
-returns-in-Goes-after c = let a = c in
-    let h = a in
-    by-added _ h.in-Moved.is h.in-Goes.is (sym c.in-Goes-after.is ∙ a.add-after.ensures.is)
+pub returns : goal.returns
+unfolding travel_by added_held
+returns c = rw (c.in_ok-moved.was, c.in_ok-before.was, ← c.add.ensures.is, c.in_ok-trip.was)

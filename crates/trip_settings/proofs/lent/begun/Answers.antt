@@ -4,4 +4,4 @@ use Rattle.trip_settings.proofs.LentLaws.{new-capped}
 use Rattle.trip_settings.proofs.lent.begun.Goals as goal
 
 pub returns : goal.returns
-returns c = let s = c in rw (c.begin.ensures, c.displacement_settings-s.ensures) (new-capped s.args.settings.now s.args.rounds (started s.args.per_km))
+returns c = rw (c.begin.ensures, c.displacement_settings.ensures) (new-capped c.args.settings.now c.args.rounds (started c.args.per_km))

@@ -5,7 +5,6 @@ use Rattle.trip_settings.proofs.LentLaws.{new-capped}
 use Rattle.trip_settings.proofs.lent.changed.Goals as goal
 
 pub returns : goal.returns
-returns c = let t = c in
-    let s = t in
-    rw (c.under_new.ensures, c.tested.ensures, c.held.ensures, t.displacement_settings-s.ensures)
-    (new-capped s.args.settings.now s.args.rounds (tested (held_of s.args.trip.now)))
+returns c =
+    rw (c.under_new.ensures, c.tested.ensures, c.try_from-held.ensures, c.displacement_settings.ensures)
+    (new-capped c.args.settings.now c.args.rounds (tested (held_of c.args.trip.now)))

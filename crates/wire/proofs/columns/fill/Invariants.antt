@@ -6,6 +6,3 @@ use Rattle.wire.proofs.columns.fill.Given as goal
 
 abbrev pub invariant-loop-i : goal.invariant-loop-i
 invariant-loop-i l = Filling l.s l.n (record_columns l.initial.constellation l.initial.svid l.initial.band l.initial.state l.initial.floats) (record_columns l.constellation l.svid l.band l.state l.floats) l.i
-
-abbrev pub decreases-loop-i : goal.decreases-loop-i
-decreases-loop-i l = l.n - l.i

@@ -12,10 +12,10 @@ pub returns-then-not-fix_settings_pass : goal.returns-then-not-fix_settings_pass
 unfolding fix_input_rules ruled
 returns-then-not-fix_settings_pass c = simp (le-ltb _ _ c.if-observations-gt64.false, rw c.fix_settings_pass.ensures at c.if-not-fix_settings_pass.true)
 
-pub returns-then-not-all_sound_observations-is_placeable : goal.returns-then-not-all_sound_observations-is_placeable
+pub returns-then-not-all_sound_observations-is_in_range : goal.returns-then-not-all_sound_observations-is_in_range
 unfolding fix_input_rules ruled
-returns-then-not-all_sound_observations-is_placeable c = simp (le-ltb _ _ c.if-observations-gt64.false, rw c.fix_settings_pass.ensures at c.if-not-fix_settings_pass.false, rw (c.all_sound_observations.ensures, c.is_placeable.ensures) at c.if-not-all_sound_observations-is_placeable.true)
+returns-then-not-all_sound_observations-is_in_range c = simp (le-ltb _ _ c.if-observations-gt64.false, rw c.fix_settings_pass.ensures at c.if-not-fix_settings_pass.false, rw (c.all_sound_observations.ensures, c.is_in_range.ensures) at c.if-not-all_sound_observations-is_in_range.true)
 
 pub returns : goal.returns
 unfolding fix_input_rules ruled
-returns c = simp (le-ltb _ _ c.if-observations-gt64.false, rw c.fix_settings_pass.ensures at c.if-not-fix_settings_pass.false, rw (c.all_sound_observations.ensures, c.is_placeable.ensures) at c.if-not-all_sound_observations-is_placeable.false)
+returns c = simp (le-ltb _ _ c.if-observations-gt64.false, rw c.fix_settings_pass.ensures at c.if-not-fix_settings_pass.false, rw (c.all_sound_observations.ensures, c.is_in_range.ensures) at c.if-not-all_sound_observations-is_in_range.false)

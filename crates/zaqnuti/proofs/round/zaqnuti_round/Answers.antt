@@ -3,4 +3,4 @@ use Rattle.wls_columns.proofs.StepLaws.{step-answers}
 use Rattle.zaqnuti.proofs.round.zaqnuti_round.Goals as goal
 
 pub returns : goal.returns
-returns c = step-answers c.columns_step-answer.ensures c.step_into.ensures
+returns c = step-answers c.columns_step.ensures c.step_into.ensures

@@ -21,26 +21,11 @@ returns-then-not-is_sound-self c = let s = c in add-refused s.args.e s.requires 
 narrow : (c : After-struct_known-3-1) → c.args.e.pulses ≤ 65535
 narrow c = search rules
 
-pub driven-requires : goal.driven-requires
-driven-requires c = let g = c in
-    let f = g in
-    let s = f in
-    let p = s.args.e.pulses in
-    let a = accepted s.args.e s.requires _ s.is_sound.ensures f.if-not-is_sound-self.false in
-    let moves = (and_both (not (not (eqb s.args.e.refused 0)) && g.is_rated.result) (ltb 0 p) c.if-usable-pulses.true).1 in
-    (record { is-sound = a.is-sound; room = ltb-true _ _ a.room; short = leb-true _ _ a.within; few = narrow c.before }, ltb-true _ _ moves)
-
 pub returns-then-usable-pulses : goal.returns-then-usable-pulses
 returns-then-usable-pulses c = let g = c in
     let f = g in
     let s = f in
     rw c.driven.ensures (add_driven s.args.e s.requires _ s.is_sound.ensures g.is_rated.ensures f.if-not-is_sound-self.false c.if-usable-pulses.true)
-
-pub grown-requires : goal.grown-requires
-grown-requires c = let f = c in
-    let s = f in
-    let a = accepted s.args.e s.requires _ s.is_sound.ensures f.if-not-is_sound-self.false in
-    record { is-sound = a.is-sound; room = ltb-true _ _ a.room; short = leb-true _ _ a.within; few = search rules }
 
 pub returns : goal.returns
 returns c = let g = c in

@@ -1,7 +1,7 @@
 -- `time::time::GpsTime::nanos_since` meets its contract. Assumes nothing.
+use Rattle.std.specs.Prelude.{Ok}
 use Rattle.std.proofs.Common.{◌≡◌, true, ◌&&◌, ℤ, sym, ap, ◌∙◌, ap₂}
 use Rattle.time.specs.Time.{is_dated}
-use Rattle.time.specs.declared.time.Nanos.TheVariants.{Since as NanosSince}
 use Rattle.time.proofs.WeekLaws.{both}
 use Rattle.time.proofs.DifferenceLaws.{after_kept, nanos-given, nanos-refused}
 use Rattle.time.proofs.time.GpsTime.nanos_since.Goals as goal
@@ -15,7 +15,7 @@ nanos_after-requires c = dated c
 pub returns-then-is_dated : goal.returns-then-is_dated
 returns-then-is_dated c = let d = c in
     let a = d.args in
-    ap (λ (z : ℤ). NanosSince z) (after_kept a.self a.earlier c.nanos_after.result (dated d.before).0 (dated d.before).1 c.nanos_after.ensures) ∙ sym (nanos-given a.self a.earlier (dated d.before).0 (dated d.before).1)
+    ap (λ (z : ℤ). Ok z) (after_kept a.self a.earlier c.nanos_after.result (dated d.before).0 (dated d.before).1 c.nanos_after.ensures) ∙ sym (nanos-given a.self a.earlier (dated d.before).0 (dated d.before).1)
 
 pub returns : goal.returns
 returns c = let a = c.args in

@@ -1,8 +1,8 @@
 -- `time::time::GpsTime::seconds_since` meets its contract. Assumes nothing.
+use Rattle.std.specs.Prelude.{Ok}
 use Rattle.std.proofs.Common.{◌≡◌, true, ◌&&◌, sym, ap, ◌∙◌, ap₂}
 use lib.Ieee.{Float}
 use Rattle.time.specs.Time.{is_dated}
-use Rattle.time.specs.declared.time.Seconds.TheVariants.{Since as SecondsSince}
 use Rattle.time.proofs.WeekLaws.{both}
 use Rattle.time.proofs.DifferenceLaws.{seconds-given, seconds-refused}
 use Rattle.time.proofs.time.GpsTime.seconds_since.Goals as goal
@@ -16,7 +16,7 @@ seconds_after-requires c = dated c
 pub returns-then-is_dated : goal.returns-then-is_dated
 returns-then-is_dated c = let d = c in
     let a = d.args in
-    ap (λ (z : Float). SecondsSince z) c.seconds_after.ensures ∙ sym (seconds-given a.self a.earlier (dated d.before).0 (dated d.before).1)
+    ap (λ (z : Float). Ok z) c.seconds_after.ensures ∙ sym (seconds-given a.self a.earlier (dated d.before).0 (dated d.before).1)
 
 pub returns : goal.returns
 returns c = let a = c.args in

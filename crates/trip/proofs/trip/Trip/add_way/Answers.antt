@@ -10,12 +10,6 @@ use Rattle.trip.proofs.trip.Trip.add_way.Goals as goal
 pub returns-then-not-is_sound-self : goal.returns-then-not-is_sound-self
 returns-then-not-is_sound-self c = let s = c in λ d e. adds _ _ (trip_refused _ d _ e s.is_sound.ensures (le-leb _ _ s.if-way-le1000000.true) c.if-not-is_sound-self.true)
 
-pub with_epoch-requires : goal.with_epoch-requires
-with_epoch-requires c = let s = c in
-    let a = s in
-    let q = and_both s.is_sound.result (ltb a.args.self.epochs 65535) c.if-not-is_sound-self.false in
-    record { is-sound = sym s.is_sound.ensures ∙ q.0; room = ltb-true _ _ q.1; short = s.if-way-le1000000.true; few = search rules }
-
 pub returns-then-way-le1000000 : goal.returns-then-way-le1000000
 returns-then-way-le1000000 c = let e = c in
     let s = e in

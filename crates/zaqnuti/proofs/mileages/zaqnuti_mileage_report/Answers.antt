@@ -1,5 +1,0 @@
--- `zaqnuti::mileages::zaqnuti_mileage_report` meets its contract. Assumes nothing.
-use Rattle.zaqnuti.proofs.mileages.zaqnuti_mileage_report.Goals as goal
-
-pub returns : goal.returns
-returns c = let a = c.put_report.ensures in record { number_is = rw (c.report.ensures, c.held.ensures) at a.number_is; words_are = rw (c.report.ensures, c.held.ensures) at a.words_are }
