@@ -60,10 +60,10 @@
  *     city            18,432
  *     rated           18,432
  *     line            25,088
- *     records         28,416
+ *     records         24,576
  *     read_records       256
  *     write_records      256
- *     add_epoch       26,368
+ *     add_epoch       22,784
  *     query            1,024
  *     queries          1,024
  *     forget             512

@@ -21,13 +21,13 @@ fn records_tested(
     blocks: usize,
     table_count: usize,
     room: usize,
-    epoch: BaseEpoch,
-    states: Option<States>,
+    epoch: &BaseEpoch,
+    states: &Option<States>,
     base: Vec3,
     rover: Vec3,
     settings: Settings,
 ) -> Result<(), Refusal>
-    ensures { result ≡ records_test blocks table_count room epoch states base rover settings }
+    ensures { result ≡ records_test blocks table_count room epoch.now states.now base rover settings }
 {
     let k = epoch.count;
     let j = states_count(states);
@@ -43,7 +43,7 @@ fn records_tested(
     if !ranges_in_range(&epoch.ranges[..k]) {
         return Err(Refusal::RecordOutOfRange);
     }
-    if !states_in_range(states_of(&states)) {
+    if !states_in_range(states_of(states)) {
         return Err(Refusal::RecordOutOfRange);
     }
     Ok(())
@@ -84,8 +84,8 @@ pub fn add_epoch(
         blocks,
         table_count,
         table.capacity(),
-        epoch,
-        states,
+        &epoch,
+        &states,
         base,
         rover,
         settings,

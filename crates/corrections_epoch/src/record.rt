@@ -51,10 +51,13 @@ pub struct Settings {
 }
 
 // Returns how many states there are.
-pub(crate) fn states_count(states: Option<States>) -> usize
-    ensures { result ≡ spec.states_count states }
+pub(crate) fn states_count(states: &Option<States>) -> usize
+    ensures { result ≡ spec.states_count states.now }
 {
-    states.map_or(0, |s| s.count)
+    match states {
+        Some(s) => s.count,
+        None => 0,
+    }
 }
 
 // Returns the states that count.

@@ -35,11 +35,6 @@ pub record StatesRead (m : ℕ) (l : List State) (s : States) : Type 0 where
   pub count-is : s.count ≡ m
   pub states-are : take m s.states ≡ l
 
--- the states of the columns, or the refusal by 2
-abbrev pub GivesStates : StateColumns → Result States Refusal → Type 0
-GivesStates c (Ok s) = (states_lack c ≡ false) × StatesRead c.count (places (state_held c) c.count) s
-GivesStates c (Err r) = (states_lack c ≡ true) × (r ≡ TooMany)
-
 -- the number and both counts after a call are those of the answer
 abbrev pub CountsWritten : Result Counts Refusal → ℕ → ℕ → ℕ → ℕ → ℕ → Type 0
 CountsWritten answer number m m' n n' = (number ≡ answer_number answer) × (m' ≡ entries_now answer m) × (n' ≡ samples_now answer n)

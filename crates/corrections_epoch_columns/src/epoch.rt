@@ -1,7 +1,8 @@
 // The columns of a base epoch and of states read into records.
 ghost use Rattle.std.specs.Prelude.{◌≡◌, false};
+ghost use Rattle.lists.specs.Walk.{places};
 ghost use Rattle.corrections_epoch_columns.specs.Columns.{ranges_lack, state_held, states_lack};
-ghost use Rattle.corrections_epoch_columns.specs.Steps.{GivesEpoch, GivesStates, StateIn};
+ghost use Rattle.corrections_epoch_columns.specs.Steps.{GivesEpoch, StateIn, StatesRead};
 
 use crate::columns::{RangeColumns, StateColumns};
 use corrections_epoch::record::{BaseEpoch, Range, State, States};
@@ -20,7 +21,7 @@ fn ranges_lack(c: RangeColumns) -> bool
 }
 
 // Checks whether there are more than 64 states, or a column is shorter than they need.
-fn states_lack(c: StateColumns) -> bool
+pub(crate) fn states_lack(c: StateColumns) -> bool
     ensures { result ≡ states_lack c.entry }
 {
     if 64 < c.count {
@@ -81,13 +82,11 @@ fn state_at(c: StateColumns, i: usize) -> State
     }
 }
 
-// Reads the states, or refuses more than 64 and columns that are too short.
-pub(crate) fn states_of(c: StateColumns) -> Result<States, Refusal>
-    ensures { GivesStates c.entry result }
+// Reads the states of columns that are long enough.
+pub(crate) fn states_of(c: StateColumns) -> States
+    requires { states_lack c ≡ false }
+    ensures { StatesRead c.entry.count (places (state_held c.entry) c.entry.count) result }
 {
-    if states_lack(c) {
-        return Err(Refusal::TooMany);
-    }
     let nothing = State {
         constellation: 0,
         svid: 0,
@@ -101,8 +100,8 @@ pub(crate) fn states_of(c: StateColumns) -> Result<States, Refusal>
     for i in 0..c.count {
         states[i] = state_at(c, i);
     }
-    Ok(States {
+    States {
         count: c.count,
         states: states,
-    })
+    }
 }

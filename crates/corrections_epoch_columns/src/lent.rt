@@ -8,7 +8,7 @@ ghost use Rattle.corrections_epoch_columns.specs.Epoch.{settings_of};
 ghost use Rattle.corrections_epoch_columns.specs.Steps.{CountsWritten};
 
 use crate::columns::{RangeColumns, StateColumns};
-use crate::epoch::{epoch_of, states_of};
+use crate::epoch::{epoch_of, states_lack, states_of};
 use corrections_add::add::Counts;
 use corrections_epoch::add_epoch::add_epoch;
 use corrections_epoch::record::Settings;
@@ -66,7 +66,12 @@ pub fn add_into(
 {
     let epoch = epoch_of(time, ranges)?;
     let satellites = match states {
-        Some(c) => Some(states_of(c)?),
+        Some(c) => {
+            if states_lack(c) {
+                return Err(Refusal::TooMany);
+            }
+            Some(states_of(c))
+        }
         None => None,
     };
     let settings = settings_of(max_gap, max_correction, corrected);

@@ -38,18 +38,17 @@ fn carrier_of(r: CarrierRecord) -> Carrier
     }
 }
 
-// Returns the carriers of the first n records of s.
-fn carriers_in(s: &[u8], n: usize) -> CarrierArrays
-    requires { (n ≤ 64) × (59 * n ≤ length s.now) }
-    ensures { Laid (spec.record_carriers s.now n) n result.signals result.states result.floats }
+// Writes the carriers of the first n records of s.
+fn put_records(s: &[u8], n: usize, arrays: &mut CarrierArrays)
+    requires few { (n ≤ 64) × (59 * n ≤ length s.now) }
+    requires room { (length arrays.old.signals ≡ 64) × (length arrays.old.states ≡ 64) × (length arrays.old.floats ≡ 384) }
+    ensures { Laid (spec.record_carriers s.now n) n arrays.new.signals arrays.new.states arrays.new.floats }
 {
-    let mut arrays = CarrierArrays::new();
     for i in 0..n {
         let r = record_of(s, 59 * i);
         let c = carrier_of(r);
         arrays.put(i, c);
     }
-    arrays
 }
 
 // Returns the displacement between two slices of at most 64 records.
@@ -65,8 +64,10 @@ fn displacement_of(
 {
     let m = previous.len() / 59;
     let n = current.len() / 59;
-    let then = carriers_in(previous, m);
-    let now = carriers_in(current, n);
+    let mut then = CarrierArrays::new();
+    put_records(previous, m, &mut then);
+    let mut now = CarrierArrays::new();
+    put_records(current, n, &mut now);
     displaced(
         then.first(m),
         now.first(n),

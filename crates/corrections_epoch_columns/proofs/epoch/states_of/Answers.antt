@@ -1,5 +1,5 @@
 -- `corrections_epoch_columns::epoch::states_of` meets its contract. Assumes nothing.
-use mathlib.Core.Path.{refl, sym, ◌∙◌}
+use mathlib.Core.Path.{refl}
 use native.Mathlib.Omega.{arith}
 use Rattle.lists.proofs.Filling.{filling_start, filling_next}
 use Rattle.corrections_epoch_columns.proofs.EpochLaws.{states-in}
@@ -9,15 +9,15 @@ pub loop-i-init : goal.loop-i-init
 loop-i-init c = filling_start _ _ _ refl
 
 pub state_at-requires : goal.state_at-requires
-state_at-requires c = let w = states-in _ _ _ _ _ (sym c.states_lack.ensures ∙ c.if-states_lack.false) in
+state_at-requires c = let w = states-in _ _ _ _ _ c.requires in
     ((omega (arith, w, c.loop-i-test.true), omega (arith, w, c.loop-i-test.true)), (omega (arith, w, c.loop-i-test.true), omega (arith, w, c.loop-i-test.true)))
 
 pub offset_bounds-states-i : goal.offset_bounds-states-i
-offset_bounds-states-i c = omega (arith, c.loop-i-test.true, states-in _ _ _ _ _ (sym c.states_lack.ensures ∙ c.if-states_lack.false))
+offset_bounds-states-i c = omega (arith, c.loop-i-test.true, states-in _ _ _ _ _ c.requires)
 
 pub bounds-states-i : goal.bounds-states-i
-bounds-states-i c = omega (arith, c.loop-i-test.true, states-in _ _ _ _ _ (sym c.states_lack.ensures ∙ c.if-states_lack.false))
+bounds-states-i c = omega (arith, c.loop-i-test.true, states-in _ _ _ _ _ c.requires)
 
 pub loop-i-preserved : goal.loop-i-preserved
 loop-i-preserved c =
-    rw c.state_at.ensures (filling_next _ _ _ (states-in _ _ _ _ _ (sym c.states_lack.ensures ∙ c.if-states_lack.false)).0 c.loop-i.invariant c.loop-i-test.true)
+    rw c.state_at.ensures (filling_next _ _ _ (states-in _ _ _ _ _ c.requires).0 c.loop-i.invariant c.loop-i-test.true)

@@ -9,10 +9,10 @@ use Rattle.wire_tdcp.proofs.DisplacementLaws.{laid-fits, laid-is}
 use Rattle.wire_tdcp.proofs.displacement.displacement_of.Goals as goal
 
 pub first-requires : goal.first-requires
-first-requires c = record { few = c.requires.0; fit = laid-fits _ c.carriers_in-then.ensures c.requires.0 }
+first-requires c = record { few = c.requires.0; fit = laid-fits _ c.put_records.ensures c.requires.0 }
 
 pub first-requires-2 : goal.first-requires-2
-first-requires-2 c = record { few = c.requires.1; fit = laid-fits _ c.carriers_in-now.ensures c.requires.1 }
+first-requires-2 c = record { few = c.requires.1; fit = laid-fits _ c.put_records-2.ensures c.requires.1 }
 
 pub returns : goal.returns
 returns c = let y = c in
@@ -21,4 +21,4 @@ returns c = let y = c in
     let a = s.args in
     promised _ _
     (plain-map _ _ (λ d v q. search rules) c.map.ensures.cases ∙ plain-is _ (rw (c.first.ensures.signals, c.first.ensures.states, c.first.ensures.floats, c.first-2.ensures.signals, c.first-2.ensures.states, c.first-2.ensures.floats) at c.displaced.ensures).answer
-    ∙ ap₂ (λ (p q : Epoch). displacement_of (general p q a.dt a.receiver a.settings)) (laid-is _ c.carriers_in-then.ensures s.requires.0) (laid-is _ c.carriers_in-now.ensures s.requires.1))
+    ∙ ap₂ (λ (p q : Epoch). displacement_of (general p q a.dt a.receiver a.settings)) (laid-is _ c.put_records.ensures s.requires.0) (laid-is _ c.put_records-2.ensures s.requires.1))

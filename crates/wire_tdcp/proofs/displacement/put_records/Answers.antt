@@ -1,4 +1,4 @@
--- `wire_tdcp::displacement::carriers_in` meets its contract: its loop stores one carrier after the other. Assumes nothing.
+-- `wire_tdcp::displacement::put_records` meets its contract: its loop stores one carrier after the other. Assumes nothing.
 use mathlib.Core.Path.{◌≡◌, ap, subst, ◌∙◌}
 use Prim.Native.Nat.{ℕ}
 use native.Mathlib.Omega.{arith}
@@ -7,10 +7,10 @@ use Rattle.records.specs.Steps.{Laid}
 use Rattle.records.proofs.PutLaws.{laid_next}
 use Rattle.wire_tdcp.specs.Displacement.{record_carrier, record_carriers}
 use Rattle.wire_tdcp.proofs.DisplacementLaws.{carrier-in}
-use Rattle.wire_tdcp.proofs.displacement.carriers_in.Goals as goal
+use Rattle.wire_tdcp.proofs.displacement.put_records.Goals as goal
 
 pub loop-i-init : goal.loop-i-init
-loop-i-init c = (search rules, record { signals-long = rw c.new-arrays.ensures.signals (search rules); states-long = rw c.new-arrays.ensures.states (search rules); floats-long = rw c.new-arrays.ensures.floats (search rules); small = λ i l. absurd (omega arith); all = λ i l d. absurd (omega arith) })
+loop-i-init c = (search rules, record { signals-long = c.requires.room.0; states-long = c.requires.room.1; floats-long = c.requires.room.2; small = λ i l. absurd (omega arith); all = λ i l d. absurd (omega arith) })
 
 pub loop-i-preserved : goal.loop-i-preserved
 loop-i-preserved c = let x = c in
