@@ -55,15 +55,15 @@
  *
  *     fix             20,224
  *     position        20,224
- *     displacement    18,432
- *     between         18,432
- *     city            18,432
- *     rated           18,432
+ *     displacement    18,688
+ *     between         18,688
+ *     city            18,688
+ *     rated           18,688
  *     line            25,088
  *     records         24,576
  *     read_records       256
  *     write_records      256
- *     add_epoch       22,784
+ *     add_epoch       16,896
  *     query            1,024
  *     queries          1,024
  *     forget             512
@@ -74,7 +74,7 @@
  *     trip               256
  *     mileage            256
  *     north_east_down    256
- *     trip_displacement 18,432
+ *     trip_displacement 18,688
  *     round            8,960
  *     centre             768
  *     geometry           256

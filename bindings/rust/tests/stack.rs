@@ -915,6 +915,18 @@ fn numbers(x: f64) -> usize {
     })
 }
 
+/// The bytes of the arguments that lie on the stack in the frame that calls, where `used` does not see them. Six words and eight floats go in registers;
+/// the stack is kept at a multiple of 16. The compiler lays out these calls so; the arguments of the others it puts below the frame, where they are seen.
+fn handed(name: &str) -> usize {
+    match name {
+        "displacement" | "city" => 176,
+        "between" | "rated" | "trip_displacement" => 192,
+        "add_epoch" => 256,
+        "records" => 16,
+        _ => 0,
+    }
+}
+
 fn most(of: impl IntoIterator<Item = usize>) -> usize {
     of.into_iter().max().unwrap()
 }
@@ -1167,6 +1179,7 @@ fn no_more_than_the_header_says() {
             most([2.0, 0.3, 1e-310, -1.0, f64::NAN, f64::INFINITY, 1e300].map(numbers)),
         ),
     ];
+    let table = table.map(|(name, bytes)| (name, bytes + handed(name)));
     let stated = stated();
     for (name, bytes) in table {
         println!("{name:<14} {bytes:>7}");

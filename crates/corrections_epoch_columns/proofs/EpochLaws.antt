@@ -34,8 +34,8 @@ use Rattle.corrections_epoch.specs.declared.record.States.{States}
 use Rattle.corrections_epoch.specs.declared.record.Settings.{Settings}
 use Rattle.corrections_epoch_columns.specs.Epoch.{LentBools, range_at, base_epoch_of, states_in, records_short, entry_in, settings_of}
 use Rattle.corrections_epoch_columns.specs.Short.{ranges_short, states_short}
-use Rattle.corrections_epoch_columns.specs.Steps.{CountsWritten, EpochRead, StatesRead}
-use Rattle.corrections_epoch_columns.specs.Columns.{columns_entry, ranges_held, ranges_lack, state_held, states_lack}
+use Rattle.corrections_epoch_columns.specs.Steps.{CountsWritten, EpochRead, GivesStates, StatesRead}
+use Rattle.corrections_epoch_columns.specs.Columns.{columns_entry, given_lack, ranges_held, ranges_lack, state_held, states_lack}
 use Rattle.corrections_epoch_columns.specs.declared.columns.RangeColumns.{RangeColumns}
 use Rattle.corrections_epoch_columns.specs.declared.columns.StateColumns.{StateColumns}
 use Rattle.lists.specs.Memory.{before, LentFloats}
@@ -207,6 +207,10 @@ module _ (m n : ℕ) (l : Blocks) (time : Float) (r : RangeColumns) (base rover 
   pub states-refused : (c : StateColumns) → states_lack c ≡ true → refused_in TooMany ≡ columns_entry m n l time r (Some c) base rover gap max on
   states-refused c e = entry-unreadable m n l time r.count _ _ _ _ true c.count _ _ _ _ _ _ _ (by-states r.count _ _ _ _ c.count _ _ _ _ e)
 
+  pub given-refused : (o : Option StateColumns) → given_lack o ≡ true → refused_in TooMany ≡ columns_entry m n l time r o base rover gap max on
+  given-refused None e = never e
+  given-refused (Some c) e = states-refused c e
+
   module _ {e : BaseEpoch} (given : (ranges_lack r ≡ false) × EpochRead time r.count (ranges_held r) e) where
     pub read-none : epoch_placed m n (block_capacity l) (directory_in m n l) e None (vector_at (before base) 0) (vector_at (before rover) 0) (settings_of gap max (before on))
         ≡ columns_entry m n l time r None base rover gap max on
@@ -219,6 +223,13 @@ module _ (m n : ℕ) (l : Blocks) (time : Float) (r : RangeColumns) (base rover 
     read-some c {s} q =
         entry-added m n l time r.count _ _ _ _ true c.count _ _ _ _ _ _ _ e (Some s) (by_both r.count _ _ _ _ c.count _ _ _ _ given.0 q.0) given.1 q.1.count-is
         (ap (λ (i : ℕ). take i s.states) q.1.count-is ∙ q.1.states-are ∙ sym (places-all (state_held c) c.count))
+
+    pub read-given : (o : Option StateColumns) (s : Option States) → given_lack o ≡ false → GivesStates o s
+        → epoch_placed m n (block_capacity l) (directory_in m n l) e s (vector_at (before base) 0) (vector_at (before rover) 0) (settings_of gap max (before on))
+        ≡ columns_entry m n l time r o base rover gap max on
+    read-given None s h q = rw q read-none
+    read-given (Some c) None h q = absurd q
+    read-given (Some c) (Some s) h q = read-some c (h, q)
 
 -- states are not read under the mark that there are none
 unread : (m n : ℕ) (l : Blocks) (time : Float) (k : ℕ) (rc rv rb : List ℕ) (rp : List Float) (j : ℕ) (sc sv sb : List ℕ) (sf : List Float) (base rover : Vec3) (set : Settings)

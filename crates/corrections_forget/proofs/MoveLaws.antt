@@ -9,8 +9,12 @@ use lib.Dec.{ltb}
 use borrow.Author.Tests.{ltb-true, ltb-false}
 use lib.Ieee.{Float, nan, lt}
 use lib.ListN.{length, get_or, take, drop, set, length-drop, length-set, take-append-drop}
-use lib.Seq.{drop-drop, drop-paste, drop-set-lt, get_or-drop, length-paste, length-take-le, take-paste, take-suc-set}
+use lib.Seq.{drop-drop, drop-paste, drop-set-lt, get_or-drop, length-paste, length-take-le, take-add, take-paste, take-suc-set}
 use Rattle.corrections_forget.specs.Steps.{moved_down}
+
+-- what is moved to where it lies stays as it is
+pub moved_nowhere : {A : Type 0} (at n : ℕ) (l : List A) → l ≡ moved_down at at n l
+moved_nowhere {A = A} at n l = sym (take-append-drop (at + n) l) ∙ ap (λ (r : List A). r ++ drop (at + n) l) (take-add at n l)
 
 -- ---- a column written from the front on: c₀ is the column before, c the column now; its first k values with `rest` are `whole`, and from k on it is as it was
 pub record Going {A : Type 0} (c₀ c rest whole : List A) (k : ℕ) : Type 0 where

@@ -1,10 +1,10 @@
 // Keeps what a drop retains of each block, moved down to where the block before it ends.
-ghost use Rattle.std.specs.Prelude.{◌≡◌};
+ghost use Rattle.std.specs.Prelude.{◌≡◌, ◌-◌, ◌≤◌, length};
 ghost use Rattle.lists.specs.Memory.{held, lent};
 ghost use Rattle.numeric.specs.Order.{is_nan_pattern};
 ghost use Rattle.corrections_directory.specs.Directory.{floats};
 ghost use Rattle.corrections_directory.specs.Steps.{Timed};
-ghost use Rattle.corrections_forget.specs.Steps.{Outdated, SomeDirectory, Trims};
+ghost use Rattle.corrections_forget.specs.Steps.{Outdated, SomeDirectory, Trims, moved_down};
 
 use corrections_directory::element::Element;
 
@@ -20,6 +20,16 @@ fn front_of(table_time: &[u64], first: usize, count: usize, time: f64) -> usize
         }
     }
     count
+}
+
+// Moves the part of a column between two places down to another place. A part that lies there already is left as it is.
+fn move_down(column: &mut [u64], from: usize, end: usize, to: usize)
+    requires { (to ≤ from) × ((from ≤ end) × (end ≤ length column.old)) }
+    ensures { column.new ≡ moved_down to from (end - from) column.old }
+{
+    if to < from {
+        column.copy_within(from..end, to);
+    }
 }
 
 // Drops all but the last of each block's samples before the time, and moves what is left down. Returns how many samples are left.
@@ -42,8 +52,8 @@ pub(crate) fn trim(
         let gone = k.saturating_sub(1);
         let from = first + gone;
         let end = first + count;
-        table_time.copy_within(from..end, place);
-        table_metres.copy_within(from..end, place);
+        move_down(table_time, from, end, place);
+        move_down(table_metres, from, end, place);
         let kept = count - gone;
         block_first[i] = place;
         block_samples[i] = kept;

@@ -9,7 +9,7 @@ use crate::record::{Carrier, Epoch};
 use signal::signal::signal_of;
 
 // Room for the signals, states and floats of 64 carriers.
-#[derive(Drop)]
+#[derive(Clone, Copy)]
 pub struct CarrierArrays {
     pub signals: [u64; 64],
     pub states: [i32; 64],

@@ -1,6 +1,6 @@
 -- Columns that no epoch can be made of, computed. Assumes nothing.
 use Rattle.numeric.specs.Refusal.{answer_number}
-use Rattle.std.specs.Prelude.{Err, ⊤}
+use Rattle.std.specs.Prelude.{Err}
 use mathlib.Core.Path.{◌≡◌, refl}
 use mathlib.Core.List.{List, []}
 use Prim.Native.Nat.{ℕ}
@@ -27,5 +27,6 @@ module _ (p c : CarrierColumns) (n : ℕ) (since : Interval) (receiver : Vec3) (
 pub refused-leaves : (delta counts : List ℕ) → (delta_after (Err TooMany) delta ≡ delta) × (counts_after (Err TooMany) counts ≡ counts)
 refused-leaves delta counts = (refl, refl)
 
-pub refused-number : answer_number {A = ⊤} (Err TooMany) ≡ 2
-refused-number = refl
+-- whatever the answer would be
+pub refused-number : (A : Type 0) → answer_number {A = A} (Err TooMany) ≡ 2
+refused-number A = refl

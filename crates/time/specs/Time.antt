@@ -58,5 +58,3 @@ nanos_since later earlier = cond (is_dated later && is_dated earlier) (Ok (nanos
 
 unfoldable pub seconds_since : GpsTime → GpsTime → Result Float Refusal
 seconds_since later earlier = cond (is_dated later && is_dated earlier) (Ok (seconds_between later earlier)) (Err BadTime)
-
--- ---- the answers in numbers: 0, or the number of the refusal

@@ -18,7 +18,7 @@ use Rattle.track_smooth.specs.declared.Settings.{Settings}
 use Rattle.track_smooth.specs.Track.{huber_of, anchor_scale, link_scale, ones, smoothed}
 use Rattle.track_smooth.specs.Answer.{track_rules}
 
--- the refusal before the fit, `Smoothed` where there is none
+-- the refusal before the fit, `Ok` where there is none
 abbrev pub track_checked : Trajectory → Settings → (r w : ℕ) → Result ⊤ Refusal
 track_checked p s r w = ruled Err (track_rules p s r w) (Ok tt)
 

@@ -1,6 +1,6 @@
 -- Columns that no observations can be made of, computed. Assumes nothing.
 use Rattle.numeric.specs.Refusal.{answer_number}
-use Rattle.std.specs.Prelude.{⊤, Err}
+use Rattle.std.specs.Prelude.{Err}
 use mathlib.Core.Path.{◌≡◌, refl}
 use mathlib.Core.List.{[]}
 use Rattle.numeric.specs.declared.refusal.Refusal.TheVariants.{TooMany}
@@ -18,5 +18,6 @@ module _ (guess : Vec3) (settings : Settings) where
   unfolding column_fix_of observations_fit
   observations-missing = refl
 
-pub refused-number : answer_number {A = ⊤} (Err TooMany) ≡ 2
-refused-number = refl
+-- whatever the answer would be
+pub refused-number : (A : Type 0) → answer_number {A = A} (Err TooMany) ≡ 2
+refused-number A = refl

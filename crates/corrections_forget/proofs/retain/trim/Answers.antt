@@ -111,33 +111,19 @@ overflow_add-end c =
     let w = turn h.table_time h.table_metres p.fit (h.invariant.0 p.constellations p.svids p.bands p.samples p.fit) h.invariant.1 c.loop-i-test.true in
     omega (arith, w, c.saturating_sub-gone.ensures, c.front_of-k.ensures.within)
 
-pub copy_within-requires-clause-in_bounds : goal.copy_within-requires-clause-in_bounds
-copy_within-requires-clause-in_bounds c =
+pub move_down-requires : goal.move_down-requires
+move_down-requires c =
     let p = c.requires in
     let h = c.loop-i in
     let w = turn h.table_time h.table_metres p.fit (h.invariant.0 p.constellations p.svids p.bands p.samples p.fit) h.invariant.1 c.loop-i-test.true in
-    omega (arith, w, c.saturating_sub-gone.ensures, c.front_of-k.ensures.within)
+    (omega (arith, w, c.saturating_sub-gone.ensures, c.front_of-k.ensures.within), (omega (arith, w, c.saturating_sub-gone.ensures, c.front_of-k.ensures.within), omega (arith, w, c.saturating_sub-gone.ensures, c.front_of-k.ensures.within)))
 
-pub copy_within-requires-clause-dest_in_bounds : goal.copy_within-requires-clause-dest_in_bounds
-copy_within-requires-clause-dest_in_bounds c =
+pub move_down-requires-in-loop-i : goal.move_down-requires-in-loop-i
+move_down-requires-in-loop-i c =
     let p = c.requires in
     let h = c.loop-i in
     let w = turn h.table_time h.table_metres p.fit (h.invariant.0 p.constellations p.svids p.bands p.samples p.fit) h.invariant.1 c.loop-i-test.true in
-    omega (arith, w, c.saturating_sub-gone.ensures, c.front_of-k.ensures.within)
-
-pub copy_within-requires-in-loop-i-clause-in_bounds : goal.copy_within-requires-in-loop-i-clause-in_bounds
-copy_within-requires-in-loop-i-clause-in_bounds c =
-    let p = c.requires in
-    let h = c.loop-i in
-    let w = turn h.table_time h.table_metres p.fit (h.invariant.0 p.constellations p.svids p.bands p.samples p.fit) h.invariant.1 c.loop-i-test.true in
-    omega (arith, w, c.saturating_sub-gone.ensures, c.front_of-k.ensures.within)
-
-pub copy_within-requires-in-loop-i-clause-dest_in_bounds : goal.copy_within-requires-in-loop-i-clause-dest_in_bounds
-copy_within-requires-in-loop-i-clause-dest_in_bounds c =
-    let p = c.requires in
-    let h = c.loop-i in
-    let w = turn h.table_time h.table_metres p.fit (h.invariant.0 p.constellations p.svids p.bands p.samples p.fit) h.invariant.1 c.loop-i-test.true in
-    omega (arith, w, c.saturating_sub-gone.ensures, c.front_of-k.ensures.within)
+    (omega (arith, w, c.saturating_sub-gone.ensures, c.front_of-k.ensures.within), (omega (arith, w, c.saturating_sub-gone.ensures, c.front_of-k.ensures.within), omega (arith, w, c.saturating_sub-gone.ensures, c.front_of-k.ensures.within)))
 
 pub offset_bounds-block_first-i-in-loop-i : goal.offset_bounds-block_first-i-in-loop-i
 offset_bounds-block_first-i-in-loop-i c =
@@ -186,8 +172,8 @@ loop-i-preserved c =
     let kept = get_or h.block_samples h.i 0 - c.saturating_sub-gone.result in
     let end = get_or h.block_first h.i 0 + get_or h.block_samples h.i 0 in
     let z : end - from ≡ kept = omega arith in
-    let mt = copied h.place from end kept h.table_time c.copy_within.ensures.after z in
-    let mx = copied h.place from end kept h.table_metres c.copy_within-in-loop-i.ensures.after z in (
+    let mt = copied h.place from end kept h.table_time c.move_down.ensures z in
+    let mx = copied h.place from end kept h.table_metres c.move_down-in-loop-i.ensures z in (
       λ dc dv db n k.
           trimming_turn a.time a.blocks n (lent_blocks dc dv db a.block_first.now a.block_samples.now (floats a.table_time.now) (floats a.table_metres.now)) k.few-entries k.few-samples k.sound (h.invariant.0 dc dv db n k) c.loop-i-test.true f g
           (ap floats mt ∙ floats-moved h.place from kept h.table_time) (ap floats mx ∙ floats-moved h.place from kept h.table_metres),
