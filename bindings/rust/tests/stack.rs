@@ -916,7 +916,8 @@ fn numbers(x: f64) -> usize {
 }
 
 /// The bytes of the arguments that lie on the stack in the frame that calls, where `used` does not see them. Six words and eight floats go in registers;
-/// the stack is kept at a multiple of 16. The compiler lays out these calls so; the arguments of the others it puts below the frame, where they are seen.
+/// the stack is kept at a multiple of 16. These calls are laid out so by the compiler that was tried (1.95); a caller in C on a painted stack shows the same sum.
+/// Beside that caller `query`, `queries` and `forget` are seen with 24 bytes too few, which the rounding of the header covers.
 fn handed(name: &str) -> usize {
     match name {
         "displacement" | "city" => 176,
