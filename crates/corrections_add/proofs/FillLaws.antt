@@ -1,11 +1,10 @@
 -- A column that is filled from the back: what is still to be made, and after it what was made already, are the whole; values that go up in it. Assumes nothing.
 use mathlib.Core.Path.{◌≡◌, refl, sym, ap, ◌∙◌}
 use mathlib.Core.List.{List, [], ◌∷◌, ◌++◌, append_assoc}
-use Prim.Native.Nat.{ℕ, zero, suc, ◌+◌, ◌-◌, ◌≤◌, ◌<◌}
+use Prim.Native.Nat.{ℕ, suc, ◌+◌, ◌-◌, ◌≤◌, ◌<◌}
 use native.Mathlib.Omega.{arith}
-use lib.ListN.{length, get_or, take, drop, set, length-append, length-drop, length-set, take-append-drop}
-use lib.Seq.{take-set-le, drop-cons, drop-set-lt, get_or-set_same, take-take, take-suc, paste, paste-zero, get_or-drop}
-use Rattle.std.proofs.lemmas.List.{drop-take, drop-set}
+use lib.ListN.{length, get_or, take, drop, set, length-append, length-set, take-append-drop}
+use lib.Seq.{take-set-le, drop-cons, drop-set-lt, get_or-set_same, take-take}
 use Rattle.corrections_add.specs.Steps.{shifted}
 
 -- d₀ is the column before, d the column now, and w that after; of its first elements `left` are still to be made, and the first i are as they were
@@ -39,25 +38,34 @@ module _ {A : Type 0} where
     pub filling_end : left ≡ take i d₀ → i ≡ k → d ≡ w
     filling_end e q = sym (take-append-drop i d) ∙ ap (λ (m : List A). m ++ drop i d) (inv.front ∙ sym e) ∙ ap (λ (n : ℕ). left ++ drop n d) q ∙ inv.back
 
--- ---- values that go up together
-module _ {A : Type 0} (first by : ℕ) (z : A) where
-  -- the last of them first
-  moved-last : (m : ℕ) (d : List A) → first + suc m + by ≤ length d
-      → paste d (first + by) (drop first d) (suc m) ≡ paste (set d (first + m + by) (get_or d (first + m) z)) (first + by) (drop first (set d (first + m + by) (get_or d (first + m) z))) m
-  moved-last m d h =
-      let v = get_or d (first + m) z in
-      let q : first + by + m ≡ first + m + by = omega arith in
-      let f : first + by + suc m ≡ first + m + by + 1 = omega arith in
-      let a : take (first + by) (set d (first + m + by) v) ≡ take (first + by) d = take-set-le (first + by) d (first + m + by) v (omega arith) in
-      let b : take m (drop first (set d (first + m + by) v)) ≡ take m (drop first d) =
-      sym (drop-take first m (set d (first + m + by) v)) ∙ ap (drop first) (take-set-le (first + m) d (first + m + by) v (omega arith)) ∙ drop-take first m d in
-      let c : drop (first + by + m) (set d (first + m + by) v) ≡ v ∷ drop (first + m + by + 1) d =
-      ap (λ (k : ℕ). drop k (set d (first + m + by) v)) q ∙ drop-set d (first + m + by) v (omega arith) in
-      let e : take (suc m) (drop first d) ≡ take m (drop first d) ++ (v ∷ []) =
-      take-suc (drop first d) m z (simp length-drop (omega arith)) ∙ ap (λ (x : A). take m (drop first d) ++ (x ∷ [])) (get_or-drop first d m z) in
-      rw (a, b, c, e, f) (simp append_assoc)
+-- ---- values that go up together, the last of them first
 
-  pub moved_all : (m : ℕ) (d : List A) → first + m + by ≤ length d → paste d (first + by) (drop first d) m ≡ shifted first by m z d
-  unfolding shifted
-  moved_all zero d h = sym (paste-zero d (first + by) (drop first d))
-  moved_all (suc m) d h = moved-last m d h ∙ moved_all m (set d (first + m + by) (get_or d (first + m) z)) (omega (arith, length-set d (first + m + by) (get_or d (first + m) z)))
+-- d₀ is the column before, d the column now, where c of the values are still to be moved
+pub record Shifting {A : Type 0} (z : A) (d₀ d : List A) (first by count c : ℕ) : Type 0 where
+  pub few : c ≤ count
+  pub long : length d ≡ length d₀
+  pub rest : shifted first by c z d ≡ shifted first by count z d₀
+
+module _ {A : Type 0} {z : A} {d₀ d : List A} {first by count c : ℕ} (inv : Shifting z d₀ d first by count c) where
+  pub shifting_turn : 0 < c → Shifting z d₀ (set d (first + (c - 1) + by) (get_or d (first + (c - 1)) z)) first by count (c - 1)
+  shifting_turn h =
+      record {
+        few = omega (arith, inv.few);
+        long = length-set d (first + (c - 1) + by) (get_or d (first + (c - 1)) z) ∙ inv.long;
+        rest = more (c - 1) ∙ ap (λ (m : ℕ). shifted first by m z d) (last h) ∙ inv.rest;
+      }
+    where
+      last : 0 < c → suc (c - 1) ≡ c
+      last h = omega arith
+
+      more : (m : ℕ) → shifted first by m z (set d (first + m + by) (get_or d (first + m) z)) ≡ shifted first by (suc m) z d
+      more m = unfold shifted in refl
+
+  pub shifting_end : c ≤ 0 → d ≡ shifted first by count z d₀
+  shifting_end h = none ∙ ap (λ (m : ℕ). shifted first by m z d) (zeros h) ∙ inv.rest
+    where
+      zeros : c ≤ 0 → 0 ≡ c
+      zeros h = omega arith
+
+      none : d ≡ shifted first by 0 z d
+      none = unfold shifted in refl

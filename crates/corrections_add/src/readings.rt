@@ -50,12 +50,14 @@ fn old_stay(
     times_stay(table_time, first, i, t)
 }
 
-// Moves the count values from the place first on up by so many places.
+// Moves the count values from the place first on up by so many places, the last of them first. docs/DECISIONS.md has why `copy_within` does not.
 fn shift(d: &mut [u64], first: usize, count: usize, by: usize)
     requires { first + count + by ≤ length d.old }
     ensures { d.new ≡ shifted first by count 0 d.old }
 {
-    d.copy_within(first..first + count, first + by);
+    for c in (0..count).rev() {
+        d[first + c + by] = d[first + c];
+    }
 }
 
 // Returns how many of the first e entries hold the first i samples: the last one goes if its block begins at i.

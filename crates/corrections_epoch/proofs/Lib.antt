@@ -1,5 +1,4 @@
 -- What the proofs of more than one function use, and the theorems.
-pub mod EveryLaws
 pub mod RawLaws
 pub mod SampleLaws
 pub mod TestLaws

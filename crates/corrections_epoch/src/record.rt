@@ -78,16 +78,26 @@ pub(crate) fn state_in_range(s: State) -> bool
     s.position.is_in_range() & s.velocity.is_in_range() & in_range(s.clock) & in_range(s.modelled)
 }
 
-// Checks rule 4 for the ranges.
+// Checks rule 4 for the ranges. docs/DECISIONS.md has why no `all` does.
 pub(crate) fn ranges_in_range(ranges: &[Range]) -> bool
     ensures { result ≡ every spec.range_in_range ranges.now }
 {
-    ranges.iter().all(|r| in_range(r.pseudorange))
+    for r in ranges {
+        if !in_range(r.pseudorange) {
+            return false;
+        }
+    }
+    true
 }
 
 // Checks rule 4 for the states.
 pub(crate) fn states_in_range(states: &[State]) -> bool
     ensures { result ≡ every spec.state_in_range states.now }
 {
-    states.iter().all(|s| state_in_range(*s))
+    for s in states {
+        if !state_in_range(*s) {
+            return false;
+        }
+    }
+    true
 }

@@ -7,9 +7,9 @@ use Rattle.std.specs.Bool.{then_some}
 use mathlib.Core.Path.{◌≡◌, refl, sym, ap, ◌∙◌}
 use mathlib.Core.List.{List, []}
 use mathlib.Core.Bool.{Bool, true, false, cond, not, or-false, ◌&&◌, ◌||◌}
-use Prim.Native.Nat.{ℕ, ◌+◌, ◌*◌, ◌≤◌}
+use Prim.Native.Nat.{ℕ, ◌+◌, ◌*◌, ◌≤◌, ◌<◌}
 use native.Mathlib.Omega.{arith}
-use borrow.Author.Tests.{ltb-false, le-ltb}
+use borrow.Author.Tests.{ltb-false, le-ltb, lt-ltb}
 use lib.Dec.{ltb}
 use lib.ListN.{length, take}
 use lib.Ieee.{Float}
@@ -34,8 +34,8 @@ use Rattle.corrections_epoch.specs.declared.record.States.{States}
 use Rattle.corrections_epoch.specs.declared.record.Settings.{Settings}
 use Rattle.corrections_epoch_columns.specs.Epoch.{LentBools, range_at, base_epoch_of, states_in, records_short, entry_in, settings_of}
 use Rattle.corrections_epoch_columns.specs.Short.{ranges_short, states_short}
-use Rattle.corrections_epoch_columns.specs.Steps.{CountsWritten, EpochRead, GivesStates, StatesRead}
-use Rattle.corrections_epoch_columns.specs.Columns.{columns_entry, given_lack, ranges_held, ranges_lack, state_held, states_lack}
+use Rattle.corrections_epoch_columns.specs.Steps.{CountsWritten, EpochRead, GivesEpoch, GivesStates}
+use Rattle.corrections_epoch_columns.specs.Columns.{columns_entry, state_held}
 use Rattle.corrections_epoch_columns.specs.declared.columns.RangeColumns.{RangeColumns}
 use Rattle.corrections_epoch_columns.specs.declared.columns.StateColumns.{StateColumns}
 use Rattle.lists.specs.Memory.{before, LentFloats}
@@ -138,6 +138,15 @@ states-in m sc sv sb sf e =
     let l = readable 0 [] [] [] [] m sc sv sb sf (by_both 0 [] [] [] [] m sc sv sb sf refl e) in
     (l.few-states, ((l.in-sc, l.in-sv), (l.in-sb, l.in_sf)))
 
+-- the same of columns that a test has found long enough
+pub ranges-read : {b : Bool} (k : ℕ) (rc rv rb : List ℕ) (rp : List Float) → b ≡ ranges_short k rc rv rb rp → b ≡ false
+    → (k ≤ 64) × (((k ≤ length rc) × (k ≤ length rv)) × ((k ≤ length rb) × (k ≤ length rp)))
+ranges-read k rc rv rb rp e f = ranges_in k rc rv rb rp (sym e ∙ f)
+
+pub states-read : {b : Bool} (m : ℕ) (sc sv sb : List ℕ) (sf : List Float) → b ≡ states_short m sc sv sb sf → b ≡ false
+    → (m ≤ 64) × (((m ≤ length sc) × (m ≤ length sv)) × ((m ≤ length sb) × (m * 8 ≤ length sf)))
+states-read m sc sv sb sf e f = states-in m sc sv sb sf (sym e ∙ f)
+
 -- ---- an epoch is known by what counts of it
 placed_by : ℕ → ℕ → ℕ → Directory → ℕ → Float → List Range → ℕ → List State → Vec3 → Vec3 → Settings → Placed
 placed_by m n room d k time ranges j states base rover set =
@@ -171,6 +180,12 @@ module _ (m n : ℕ) (l : Blocks) (time : Float) (k : ℕ) (rc rv rb : List ℕ)
   either false true b c e = refl
   either false false b c e = e
 
+  -- more than 64 ranges or states are refused by 2
+  placed-many : (e : BaseEpoch) (s : Option States) → (ltb 64 e.count || ltb 64 (states_count s)) ≡ true
+      → epoch_placed m n (block_capacity l) (directory_in m n l) e s base rover set ≡ refused_in TooMany
+  unfolding epoch_placed too_many ruled
+  placed-many e s h = rw (either (ltb (block_capacity l) m) (ltb (block_capacity l) n) (ltb 64 e.count) (ltb 64 (states_count s)) h) refl
+
   states-counted : states_count (states_in present j sc sv sb sf) ≡ cond present j 0
   states-counted = go present
     where
@@ -198,38 +213,42 @@ module _ (m n : ℕ) (l : Blocks) (time : Float) (k : ℕ) (rc rv rb : List ℕ)
       (ap (λ (i : ℕ). take i e.ranges) er.count-is ∙ er.ranges ∙ sym (places-all (range_at rc rv rb rp) k))
       a b)
 
+  -- the epoch e and the states s as they are given: they count more than 64 where their columns lack
+  entry-given : (e : BaseEpoch) (s : Option States)
+      → (ranges_short k rc rv rb rp ≡ true → 64 < e.count) × (ranges_short k rc rv rb rp ≡ false → EpochRead time k (places (range_at rc rv rb rp) k) e)
+      → (states_short (cond present j 0) sc sv sb sf ≡ true → 64 < states_count s)
+      × (states_short (cond present j 0) sc sv sb sf ≡ false → (states_count s ≡ states_count (states_in present j sc sv sb sf)) × (states_of s ≡ states_of (states_in present j sc sv sb sf)))
+      → epoch_placed m n (block_capacity l) (directory_in m n l) e s base rover set ≡ entry_in m n (block_capacity l) (directory_in m n l) time k rc rv rb rp present j sc sv sb sf base rover set
+  entry-given e s er sr = go (ranges_short k rc rv rb rp) (states_short (cond present j 0) sc sv sb sf) refl refl
+    where
+      left : (x y : Bool) → x ≡ true → (x || y) ≡ true
+      left x y h = rw h refl
+
+      right : (x y : Bool) → y ≡ true → (x || y) ≡ true
+      right true y h = refl
+      right false y h = h
+
+      go : (x y : Bool) → ranges_short k rc rv rb rp ≡ x → states_short (cond present j 0) sc sv sb sf ≡ y → epoch_placed m n (block_capacity l) (directory_in m n l) e s base rover set
+          ≡ entry_in m n (block_capacity l) (directory_in m n l) time k rc rv rb rp present j sc sv sb sf base rover set
+      go true y p q =
+          placed-many e s (left (ltb 64 e.count) (ltb 64 (states_count s)) (lt-ltb 64 e.count (er.0 p)))
+          ∙ entry-unreadable (by-ranges k rc rv rb rp (cond present j 0) sc sv sb sf p)
+      go false true p q =
+          placed-many e s (right (ltb 64 e.count) (ltb 64 (states_count s)) (lt-ltb 64 (states_count s) (sr.0 q)))
+          ∙ entry-unreadable (by-states k rc rv rb rp (cond present j 0) sc sv sb sf q)
+      go false false p q = let h = sr.1 q in entry-added e s (by_both k rc rv rb rp (cond present j 0) sc sv sb sf p q) (er.1 p) h.0 h.1
+
 -- ---- the outcome by the structs of columns
-module _ (m n : ℕ) (l : Blocks) (time : Float) (r : RangeColumns) (base rover : LentFloats) (gap max : Float) (on : LentBools) where
-  pub ranges-refused : (s : Option StateColumns) → ranges_lack r ≡ true → refused_in TooMany ≡ columns_entry m n l time r s base rover gap max on
-  ranges-refused None e = entry-unreadable m n l time r.count _ _ _ _ false 0 [] [] [] [] _ _ _ (by-ranges r.count _ _ _ _ 0 [] [] [] [] e)
-  ranges-refused (Some c) e = entry-unreadable m n l time r.count _ _ _ _ true c.count _ _ _ _ _ _ _ (by-ranges r.count _ _ _ _ c.count _ _ _ _ e)
-
-  pub states-refused : (c : StateColumns) → states_lack c ≡ true → refused_in TooMany ≡ columns_entry m n l time r (Some c) base rover gap max on
-  states-refused c e = entry-unreadable m n l time r.count _ _ _ _ true c.count _ _ _ _ _ _ _ (by-states r.count _ _ _ _ c.count _ _ _ _ e)
-
-  pub given-refused : (o : Option StateColumns) → given_lack o ≡ true → refused_in TooMany ≡ columns_entry m n l time r o base rover gap max on
-  given-refused None e = never e
-  given-refused (Some c) e = states-refused c e
-
-  module _ {e : BaseEpoch} (given : (ranges_lack r ≡ false) × EpochRead time r.count (ranges_held r) e) where
-    pub read-none : epoch_placed m n (block_capacity l) (directory_in m n l) e None (vector_at (before base) 0) (vector_at (before rover) 0) (settings_of gap max (before on))
-        ≡ columns_entry m n l time r None base rover gap max on
-    unfolding states_short
-    read-none = entry-added m n l time r.count _ _ _ _ false 0 [] [] [] [] _ _ _ e None (by_both r.count _ _ _ _ 0 [] [] [] [] given.0 refl) given.1 refl refl
-
-    pub read-some : (c : StateColumns) {s : States} → (states_lack c ≡ false) × StatesRead c.count (places (state_held c) c.count) s
-        → epoch_placed m n (block_capacity l) (directory_in m n l) e (Some s) (vector_at (before base) 0) (vector_at (before rover) 0) (settings_of gap max (before on))
-        ≡ columns_entry m n l time r (Some c) base rover gap max on
-    read-some c {s} q =
-        entry-added m n l time r.count _ _ _ _ true c.count _ _ _ _ _ _ _ e (Some s) (by_both r.count _ _ _ _ c.count _ _ _ _ given.0 q.0) given.1 q.1.count-is
-        (ap (λ (i : ℕ). take i s.states) q.1.count-is ∙ q.1.states-are ∙ sym (places-all (state_held c) c.count))
-
-    pub read-given : (o : Option StateColumns) (s : Option States) → given_lack o ≡ false → GivesStates o s
-        → epoch_placed m n (block_capacity l) (directory_in m n l) e s (vector_at (before base) 0) (vector_at (before rover) 0) (settings_of gap max (before on))
-        ≡ columns_entry m n l time r o base rover gap max on
-    read-given None s h q = rw q read-none
-    read-given (Some c) None h q = absurd q
-    read-given (Some c) (Some s) h q = read-some c (h, q)
+module _ (m n : ℕ) (l : Blocks) (time : Float) (r : RangeColumns) (base rover : LentFloats) (gap max : Float) (on : LentBools) {e : BaseEpoch} (er : GivesEpoch time r e) where
+  -- the epoch and the states as they are given, added
+  pub placed-given : (o : Option StateColumns) (s : Option States) → GivesStates o s
+      → epoch_placed m n (block_capacity l) (directory_in m n l) e s (vector_at (before base) 0) (vector_at (before rover) 0) (settings_of gap max (before on))
+      ≡ columns_entry m n l time r o base rover gap max on
+  unfolding states_short
+  placed-given None s q = rw q (entry-given m n l time r.count _ _ _ _ false 0 [] [] [] [] _ _ _ e None er (λ h. never h, λ h. (refl, refl)))
+  placed-given (Some c) None q = absurd q
+  placed-given (Some c) (Some s) q = entry-given m n l time r.count _ _ _ _ true c.count _ _ _ _ _ _ _ e (Some s) er
+      (q.0, λ h. let p = q.1 h in (p.count-is, ap (λ (i : ℕ). take i s.states) p.count-is ∙ p.states-are ∙ sym (places-all (state_held c) c.count)))
 
 -- states are not read under the mark that there are none
 unread : (m n : ℕ) (l : Blocks) (time : Float) (k : ℕ) (rc rv rb : List ℕ) (rp : List Float) (j : ℕ) (sc sv sb : List ℕ) (sf : List Float) (base rover : Vec3) (set : Settings)

@@ -24,11 +24,6 @@ ranges_held c = places (range_at c.constellation.now c.svid.now c.band.now c.pse
 abbrev pub states_lack : StateColumns → Bool
 states_lack c = states_short c.count c.constellation.now c.svid.now c.band.now c.floats.now
 
--- there are states, and they lack
-abbrev pub given_lack : Option StateColumns → Bool
-given_lack None = false
-given_lack (Some c) = states_lack c
-
 -- the state at i
 abbrev pub state_held : StateColumns → ℕ → State
 state_held c i = state_at c.constellation.now c.svid.now c.band.now c.floats.now i

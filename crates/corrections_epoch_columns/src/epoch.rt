@@ -1,15 +1,14 @@
 // The columns of a base epoch and of states read into records.
-ghost use Rattle.std.specs.Prelude.{◌≡◌, false};
-ghost use Rattle.lists.specs.Walk.{places};
-ghost use Rattle.corrections_epoch_columns.specs.Columns.{given_lack, ranges_held, ranges_lack, state_held, states_lack};
-ghost use Rattle.corrections_epoch_columns.specs.Steps.{EpochRead, GivesStates, StateIn, StatesRead};
+ghost use Rattle.std.specs.Prelude.{◌≡◌};
+ghost use Rattle.corrections_epoch_columns.specs.Columns.{ranges_lack, state_held, states_lack};
+ghost use Rattle.corrections_epoch_columns.specs.Steps.{GivesEpoch, GivesStates, StateIn, StatesOf};
 
 use crate::columns::{RangeColumns, StateColumns};
 use corrections_epoch::record::{BaseEpoch, Range, State, States};
 use numeric::vec3::{Vec3, vector_at};
 
 // Checks whether there are more than 64 ranges, or a column is shorter than they need.
-pub(crate) fn ranges_lack(c: RangeColumns) -> bool
+fn ranges_lack(c: RangeColumns) -> bool
     ensures { result ≡ ranges_lack c.entry }
 {
     (64 < c.count)
@@ -32,10 +31,9 @@ fn states_lack(c: StateColumns) -> bool
         | (c.floats.len() < c.count * 8)
 }
 
-// Reads the ranges of columns that are long enough into an epoch of the time, in place, so that it is on the stack once.
+// Reads the ranges into an epoch of the time, in place. Where the columns lack, it reads none, and the epoch counts 65, which 2 refuses.
 pub(crate) fn epoch_of(time: f64, c: RangeColumns) -> BaseEpoch
-    requires { ranges_lack c ≡ false }
-    ensures { EpochRead time c.entry.count (ranges_held c.entry) result }
+    ensures { GivesEpoch time c.entry result }
 {
     let nothing = Range {
         constellation: 0,
@@ -44,17 +42,20 @@ pub(crate) fn epoch_of(time: f64, c: RangeColumns) -> BaseEpoch
         pseudorange: 0.0,
     };
     let mut out = BaseEpoch {
-        count: c.count,
+        count: 65,
         time: time,
         ranges: [nothing; 64],
     };
-    for i in 0..c.count {
-        out.ranges[i] = Range {
-            constellation: c.constellation[i],
-            svid: c.svid[i],
-            band: c.band[i],
-            pseudorange: c.pseudorange[i],
-        };
+    if !ranges_lack(c) {
+        out.count = c.count;
+        for i in 0..c.count {
+            out.ranges[i] = Range {
+                constellation: c.constellation[i],
+                svid: c.svid[i],
+                band: c.band[i],
+                pseudorange: c.pseudorange[i],
+            };
+        }
     }
     out
 }
@@ -78,10 +79,9 @@ fn state_at(c: StateColumns, i: usize) -> State
     }
 }
 
-// Reads the states of columns that are long enough, in place like the ranges.
+// Reads the states in place like the ranges. Where the columns lack, it reads none, and they count 65, which 2 refuses.
 fn states_of(c: StateColumns) -> States
-    requires { states_lack c ≡ false }
-    ensures { StatesRead c.entry.count (places (state_held c.entry) c.entry.count) result }
+    ensures { StatesOf c.entry result }
 {
     let nothing = State {
         constellation: 0,
@@ -93,28 +93,20 @@ fn states_of(c: StateColumns) -> States
         modelled: 0.0,
     };
     let mut out = States {
-        count: c.count,
+        count: 65,
         states: [nothing; 64],
     };
-    for i in 0..c.count {
-        out.states[i] = state_at(c, i);
+    if !states_lack(c) {
+        out.count = c.count;
+        for i in 0..c.count {
+            out.states[i] = state_at(c, i);
+        }
     }
     out
 }
 
-// Checks whether there are states, and too many or in columns that are too short.
-pub(crate) fn given_lack(states: Option<StateColumns>) -> bool
-    ensures { result ≡ given_lack states.entry }
-{
-    match states {
-        Some(c) => states_lack(c),
-        None => false,
-    }
-}
-
 // Reads the states, if there are any. It is a function of its own so that they are on the stack once less.
 pub(crate) fn states_given(states: Option<StateColumns>) -> Option<States>
-    requires { given_lack states ≡ false }
     ensures { GivesStates states.entry result }
 {
     match states {

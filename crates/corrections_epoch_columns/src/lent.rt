@@ -8,7 +8,7 @@ ghost use Rattle.corrections_epoch_columns.specs.Epoch.{settings_of};
 ghost use Rattle.corrections_epoch_columns.specs.Steps.{CountsWritten};
 
 use crate::columns::{RangeColumns, StateColumns};
-use crate::epoch::{epoch_of, given_lack, ranges_lack, states_given};
+use crate::epoch::{epoch_of, states_given};
 use corrections_add::add::Counts;
 use corrections_epoch::add_epoch::add_epoch;
 use corrections_epoch::record::Settings;
@@ -64,12 +64,6 @@ pub fn add_into(
         let o = columns_entry blocks table_count t.before time ranges.entry states.entry base rover max_gap max_correction corrected in
         AddedBy o result blocks table_count t }
 {
-    if ranges_lack(ranges) {
-        return Err(Refusal::TooMany);
-    }
-    if given_lack(states) {
-        return Err(Refusal::TooMany);
-    }
     let epoch = epoch_of(time, ranges);
     let satellites = states_given(states);
     let settings = settings_of(max_gap, max_correction, corrected);

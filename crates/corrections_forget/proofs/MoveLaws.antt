@@ -9,12 +9,53 @@ use lib.Dec.{ltb}
 use borrow.Author.Tests.{ltb-true, ltb-false}
 use lib.Ieee.{Float, nan, lt}
 use lib.ListN.{length, get_or, take, drop, set, length-drop, length-set, take-append-drop}
-use lib.Seq.{drop-drop, drop-paste, drop-set-lt, get_or-drop, length-paste, length-take-le, take-add, take-paste, take-suc-set}
+use lib.Seq.{drop-drop, drop-paste, drop-set-lt, get_or-append-add, get_or-drop, length-paste, length_paste_head, length-take-le, paste-suc, paste-zero, take-add, take-paste, take-suc-set}
 use Rattle.corrections_forget.specs.Steps.{moved_down}
 
 -- what is moved to where it lies stays as it is
 pub moved_nowhere : {A : Type 0} (at n : ℕ) (l : List A) → l ≡ moved_down at at n l
 moved_nowhere {A = A} at n l = sym (take-append-drop (at + n) l) ∙ ap (λ (r : List A). r ++ drop (at + n) l) (take-add at n l)
+
+-- ---- values moved down, one after the other
+module _ {A : Type 0} (to from : ℕ) (l : List A) where
+  moved_none : l ≡ moved_down to from 0 l
+  moved_none = paste-zero l to (drop from l)
+
+  module _ (h : to ≤ from) (i : ℕ) where
+    -- what is still to be moved is as it was
+    moved-read : (z : A) → from + i < length l → get_or (moved_down to from i l) (from + i) z ≡ get_or (drop from l) i z
+    moved-read z k =
+        let p : length (take to l ++ take i (drop from l)) ≡ to + i = length_paste_head l to (drop from l) i (omega arith) (omega (arith, length-drop from l)) in
+        let e : from + i ≡ length (take to l ++ take i (drop from l)) + (from - to) = omega (arith, p) in
+        let f : to + i + (from - to) ≡ from + i = omega arith in
+        ap (λ (j : ℕ). get_or (moved_down to from i l) j z) e
+        ∙ get_or-append-add (take to l ++ take i (drop from l)) (drop (to + i) l) (from - to) z
+        ∙ get_or-drop (to + i) l (from - to) z
+        ∙ ap (λ (j : ℕ). get_or l j z) f
+        ∙ sym (get_or-drop from l i z)
+
+    moved-turn : (z v : A) → from + i < length l → v ≡ get_or (moved_down to from i l) (from + i) z → set (moved_down to from i l) (to + i) v ≡ moved_down to from (i + 1) l
+    moved-turn z v k e =
+        ap (λ (x : A). set (moved_down to from i l) (to + i) x) (e ∙ moved-read z k)
+        ∙ paste-suc l to (drop from l) i z (omega arith) (omega (arith, length-drop from l))
+        ∙ ap (λ (j : ℕ). moved_down to from j l) (sym (add-one i))
+
+-- l₀ is the column before, l the column now, where i values are moved
+pub record Moving {A : Type 0} (to from : ℕ) (l₀ l : List A) (i : ℕ) : Type 0 where
+  pub is : l ≡ moved_down to from i l₀
+  pub long : length l ≡ length l₀
+
+module _ {A : Type 0} {to from : ℕ} {l₀ : List A} where
+  pub moving_start : Moving to from l₀ l₀ 0
+  moving_start = record { is = moved_none to from l₀; long = refl }
+
+  module _ {l : List A} {i : ℕ} (inv : Moving to from l₀ l i) where
+    pub moving_turn : (z : A) → to ≤ from → from + i < length l₀ → Moving to from l₀ (set l (to + i) (get_or l (from + i) z)) (i + 1)
+    moving_turn z h k =
+        record {
+          is = ap (λ (m : List A). set m (to + i) (get_or l (from + i) z)) inv.is ∙ moved-turn to from l₀ h i z (get_or l (from + i) z) k (ap (λ (m : List A). get_or m (from + i) z) inv.is);
+          long = length-set l (to + i) (get_or l (from + i) z) ∙ inv.long;
+        }
 
 -- ---- a column written from the front on: c₀ is the column before, c the column now; its first k values with `rest` are `whole`, and from k on it is as it was
 pub record Going {A : Type 0} (c₀ c rest whole : List A) (k : ℕ) : Type 0 where

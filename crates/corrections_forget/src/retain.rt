@@ -23,12 +23,15 @@ fn front_of(table_time: &[u64], first: usize, count: usize, time: f64) -> usize
 }
 
 // Moves the part of a column between two places down to another place. A part that lies there already is left as it is.
+// docs/DECISIONS.md has why `copy_within` does not.
 fn move_down(column: &mut [u64], from: usize, end: usize, to: usize)
     requires { (to ≤ from) × ((from ≤ end) × (end ≤ length column.old)) }
     ensures { column.new ≡ moved_down to from (end - from) column.old }
 {
     if to < from {
-        column.copy_within(from..end, to);
+        for i in 0..end - from {
+            column[to + i] = column[from + i];
+        }
     }
 }
 

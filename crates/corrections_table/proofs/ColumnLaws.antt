@@ -1,13 +1,13 @@
 -- The columns: a row, and one row more. Assumes nothing.
 use mathlib.Core.Path.{◌≡◌, refl, sym, ap, ◌∙◌}
-use mathlib.Core.List.{List, [], ◌∷◌, ◌++◌}
+use mathlib.Core.List.{List, [], ◌∷◌}
 use mathlib.Core.Bool.{Bool, true, false, cond}
 use Prim.Native.Nat.{ℕ, zero, suc, ◌+◌, ◌-◌, ◌≤◌, ◌<◌, min}
 use native.Mathlib.Nat.{not-suc-le-zero, le_of_suc-le-suc}
 use native.Mathlib.Numerals.{add-one}
 use native.Mathlib.Omega.{arith}
-use lib.ListN.{length, get_or, take, drop, set}
-use lib.Seq.{drop-drop, paste}
+use lib.ListN.{length, get_or, take, drop, set, length-set}
+use lib.Seq.{drop-drop, get_or-set_other}
 use lib.Ieee.{Float, nan}
 use Rattle.corrections_table.specs.Table.{Columns, beside, blank, stands_before, rows, table_of}
 use Rattle.corrections_table.specs.Add.{insert, insert_all}
@@ -112,24 +112,70 @@ module _ {A : Type 0} where
   opened-length (suc p) k v [] = refl
   opened-length (suc p) k v (x ∷ xs) = ap suc (opened-length p k v xs)
 
-  -- what was moved up by one, and v in the place that it left
-  pushed-moved : (v y : A) (k : ℕ) (l : List A) → k < length (y ∷ l) → v ∷ (take k (y ∷ l) ++ drop k l) ≡ pushed v k (y ∷ l)
-  unfolding pushed
-  pushed-moved v y zero l h = refl
-  pushed-moved v y (suc k) [] h = absurd (omega arith)
-  pushed-moved v y (suc k) (z ∷ l) h = ap (λ (m : List A). v ∷ m) (pushed-moved y z k l (omega arith))
+  -- v at the place n, and none moved up
+  opened-start : (l : List A) (n : ℕ) (v : A) → set l n v ≡ opened n 0 v l
+  unfolding opened pushed
+  opened-start [] zero v = refl
+  opened-start [] (suc n) v = refl
+  opened-start (x ∷ xs) zero v = refl
+  opened-start (x ∷ xs) (suc n) v = ap (λ (l : List A). x ∷ l) (opened-start xs n v)
 
-  moved-open : (p k m : ℕ) (v : A) (l : List A) → m ≡ p + k → m < length l → set (take (suc p) l ++ take k (drop p l) ++ drop (suc m) l) p v ≡ opened p k v l
-  unfolding opened
-  moved-open p k m v [] e h = absurd (omega arith)
-  moved-open zero k m v (y ∷ l) e h = let q : m ≡ k = omega arith in rw q (pushed-moved v y k l (omega arith))
-  moved-open (suc p) k zero v (y ∷ l) e h = absurd (omega arith)
-  moved-open (suc p) k (suc m) v (y ∷ l) e h = ap (λ (r : List A). y ∷ r) (moved-open p k m v l (omega arith) (omega arith))
+  -- one more moved up
+  opened-set : (l : List A) (j k : ℕ) (z v : A) → set (opened (suc j) k (get_or l j z) l) j v ≡ opened j (suc k) v l
+  unfolding opened pushed
+  opened-set [] zero k z v = refl
+  opened-set [] (suc j) k z v = refl
+  opened-set (x ∷ xs) zero k z v = refl
+  opened-set (x ∷ xs) (suc j) k z v = ap (λ (l : List A). x ∷ l) (opened-set xs j k z v)
 
-  pub opened-moved : (p k : ℕ) (v : A) (l : List A) → p + k < length l → set (paste l (suc p) (drop p l) k) p v ≡ opened p k v l
-  opened-moved p k v l h =
-      let e : suc p + k ≡ suc (p + k) = omega arith in
-      ap (λ (j : ℕ). set (take (suc p) l ++ take k (drop p l) ++ drop j l) p v) e ∙ moved-open p k (p + k) v l refl h
+  opened_get_d : (l : List A) (p k j : ℕ) (v z : A) → j < p → get_or (opened p k v l) j z ≡ get_or l j z
+  unfolding opened pushed
+  opened_get_d l zero k j v z h = absurd (not-suc-le-zero h)
+  opened_get_d [] (suc p) k j v z h = refl
+  opened_get_d (x ∷ xs) (suc p) k zero v z h = refl
+  opened_get_d (x ∷ xs) (suc p) k (suc j) v z h = opened_get_d xs p k j v z (le_of_suc-le-suc h)
+
+  -- the loop's invariant: any v written at i makes the column that v belongs into
+  pub record Opening (p n : ℕ) (l d : List A) (i : ℕ) : Type 0 where
+    pub from : p ≤ i
+    pub to : i ≤ n
+    pub long : length d ≡ length l
+    pub gives : (v : A) → set d i v ≡ opened i (n - i) v l
+
+  pub opening-start : (p n : ℕ) (l : List A) → p ≤ n → Opening p n l l n
+  opening-start p n l h =
+      record { from = h; to = omega arith; long = refl; gives = λ v. let e : n - n ≡ 0 = omega arith in rw e (opened-start l n v) }
+
+  module _ {p n : ℕ} {l d : List A} {i : ℕ} (inv : Opening p n l d i) where
+    -- the element w below i is written there
+    pub opening-next : (w : A) → w ≡ get_or d (i - 1) w → p < i → Opening p n l (set d (i - 1 + 1) w) (i - 1)
+    opening-next w is h = go (i - 1) (omega arith) is (omega arith)
+      where
+        go : (j : ℕ) → i ≡ suc j → w ≡ get_or d j w → p ≤ j → Opening p n l (set d (j + 1) w) j
+        go j e r h =
+            let ne : j ≡ i → ⊥ = λ (q : j ≡ i). omega arith in
+            let same : w ≡ get_or l j w =
+            r ∙ sym (get_or-set_other d i j w w ne) ∙ ap (λ (m : List A). get_or m j w) (inv.gives w) ∙ opened_get_d l i (n - i) j w w (omega arith) in
+            let s : suc (n - i) ≡ n - j = omega (arith, inv.to) in
+            let f : j + 1 ≡ i = omega arith in
+            record {
+              from = h;
+              to = omega (arith, inv.to);
+              long = length-set d (j + 1) w ∙ inv.long;
+              gives =
+                  λ v.
+                  ap (λ (q : ℕ). set (set d q w) j v) f
+                  ∙ ap (λ (m : List A). set m j v) (inv.gives w)
+                  ∙ ap (λ (x : A). set (opened i (n - i) x l) j v) same
+                  ∙ ap (λ (q : ℕ). set (opened q (n - i) (get_or l j w) l) j v) e
+                  ∙ opened-set l j (n - i) w v
+                  ∙ ap (λ (k : ℕ). opened j k v l) s;
+            }
+
+    pub opening-end : (x : A) → i ≤ p → set d p x ≡ opened p (n - p) x l
+    opening-end x h =
+        let e : i ≡ p = omega (arith, inv.from) in
+        ap (λ (q : ℕ). set d q x) (sym e) ∙ inv.gives x ∙ ap (λ (q : ℕ). opened q (n - q) x l) e
 
   -- ---- what lies past the new count
   drop-pushed : (v : A) (k : ℕ) (l : List A) → drop (suc k) (pushed v k l) ≡ drop (suc k) l

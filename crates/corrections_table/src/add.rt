@@ -31,12 +31,14 @@ fn spot_of(cs: &[u8], vs: &[u16], bs: &[u32], ts: &[f64], xs: &[f64], n: usize, 
     0
 }
 
-// Inserts x at the place p of a column with n places in use, moving those from p on up by one.
+// Inserts x at the place p of a column with n places in use, moving those from p on up by one. docs/DECISIONS.md has why `copy_within` does not.
 fn open<T: Copy>(d: &mut [T], p: usize, n: usize, x: T)
     requires { (p ≤ n) × (n < length d.old) }
     ensures { d.new ≡ opened p (n - p) x d.old }
 {
-    d.copy_within(p..n, p + 1);
+    for i in (p..n).rev() {
+        d[i + 1] = d[i];
+    }
     d[p] = x;
 }
 

@@ -1,6 +1,6 @@
 -- The round called by itself, by what its parts answer. Assumes nothing.
-use Rattle.std.specs.Prelude.{Result, Ok, Err}
-use mathlib.Core.Path.{◌≡◌, sym, ap, ◌∙◌, subst}
+use Rattle.std.specs.Prelude.{Result, Ok, Err, ⊤}
+use mathlib.Core.Path.{◌≡◌, refl, sym, ap, ◌∙◌, subst}
 use Prim.Native.Nat.{ℕ, ◌≤◌, ◌<◌}
 use native.Mathlib.Omega.{arith}
 use mathlib.Core.Bool.{Bool, true, false}
@@ -9,6 +9,7 @@ use borrow.Author.Tests.{lt-ltb, le-ltb}
 use lib.ListN.{length}
 use lib.Ieee.{Float}
 use Rattle.lists.specs.Walk.{every}
+use Rattle.numeric.specs.Refusal.{value_after}
 use Rattle.numeric.specs.declared.refusal.Refusal.{Refusal}
 use Rattle.numeric.specs.declared.refusal.Refusal.TheVariants.{TooMany, RecordOutOfRange}
 use Rattle.median.specs.Centre.{centre_and_scale_of, centre_scale_of}
@@ -16,7 +17,7 @@ use Rattle.median.specs.declared.centre.CentreScale.{CentreScale}
 use Rattle.normal_equations.specs.Weight.{weight}
 use Rattle.robust.specs.Round.{RoundOutcome, Refused, Solved, round_by, round_of}
 use Rattle.robust.specs.Steps.{stepping_of}
-use Rattle.robust.specs.Step.{counted_rows, indexed, padded_step, outcome, step_of}
+use Rattle.robust.specs.Step.{counted_rows, indexed, padded_step, outcome, step_of, stepping, StepPromised}
 use Rattle.normal_equations.specs.Steps.{RoundColumns, rows_in}
 use Rattle.normal_equations.specs.declared.row.Rows.{Rows}
 use Rattle.normal_equations.proofs.ColumnLaws.{residuals-of}
@@ -73,3 +74,25 @@ module _ (rows : Rows) (n : ℕ) (huber : Float) where
               go : (o : RoundOutcome) → a ≡ stepping_of o → Err r ≡ outcome n o
               go (Refused q) s = cc
               go (Solved q) s = absurd (let z : ◌≡◌ {A = ℕ} 0 1 = cc in omega arith)
+
+-- a step that is written, and a refusal that leaves dx unchanged
+pub step-written : {s : Result (List Float) Refusal} {z : List Float} (dx₀ : List Float) → Ok z ≡ s → StepPromised s (Ok tt) dx₀ z
+step-written {z = z} dx₀ e = subst (λ q. StepPromised q (Ok tt) dx₀ z) e (record { answer = refl; number_is = refl; dx-is = refl })
+
+pub step-kept : {s : Result (List Float) Refusal} {r : Refusal} (dx : List Float) → Err r ≡ s → StepPromised s (Err r) dx dx
+step-kept {r = r} dx e = subst (λ q. StepPromised q (Err r) dx dx) e (record { answer = refl; number_is = refl; dx-is = refl })
+
+-- the step by value, from what is written
+pub written-step : {s : Result (List Float) Refusal} {a : Result ⊤ Refusal} {u : ⊤} {dx₀ dx : List Float} → StepPromised s a dx₀ dx → a ≡ Ok u → Ok dx ≡ s
+written-step {s} {a} {u} {dx₀} {dx} p e = go s (sym e ∙ p.answer) p.dx-is
+  where
+    go : (q : Result (List Float) Refusal) → Ok u ≡ stepping q → dx ≡ value_after q dx₀ → Ok dx ≡ q
+    go (Ok x) t h = ap Ok h
+    go (Err r) t h = absurd (let z : ◌≡◌ {A = ℕ} 0 1 = cc in omega arith)
+
+pub refused-step : {s : Result (List Float) Refusal} {a : Result ⊤ Refusal} {r : Refusal} {dx₀ dx : List Float} → StepPromised s a dx₀ dx → a ≡ Err r → Err r ≡ s
+refused-step {s} {a} {r} p e = go s (sym e ∙ p.answer)
+  where
+    go : (q : Result (List Float) Refusal) → Err r ≡ stepping q → Err r ≡ q
+    go (Ok x) t = absurd (let z : ◌≡◌ {A = ℕ} 0 1 = cc in omega arith)
+    go (Err r') t = cc

@@ -3,7 +3,7 @@ ghost use Rattle.std.specs.Prelude.{◌≡◌, ◌≤◌};
 ghost use Rattle.robust.specs.Round as spec;
 ghost use Rattle.robust.specs.Steps.{stepping_of};
 ghost use Rattle.normal_equations.specs.Steps.{lent_rows};
-ghost use Rattle.robust.specs.Step.{padded_step, step_of};
+ghost use Rattle.robust.specs.Step.{padded_step, step_of, StepPromised};
 
 use cholesky::factor::{factor_used, solve_used};
 use median::centre::centre_scale;
@@ -42,9 +42,9 @@ fn first_of(n: usize, step: [f64; 9]) -> [f64; 9]
     x
 }
 
-// Runs one round by itself and returns its step, zeros beyond the unknowns, or the refusal by 2, 4 or 10.
-pub fn step(rows: Rows, n: usize, huber: f64) -> Result<[f64; 9], Refusal>
-    ensures { result ≡ step_of rows n huber }
+// Runs one round by itself and writes its step to dx, zeros beyond the unknowns; refused by 2, 4 or 10, leaves dx unchanged.
+pub fn step(rows: Rows, n: usize, huber: f64, dx: &mut [f64; 9]) -> Result<(), Refusal>
+    ensures { StepPromised (step_of rows n huber) result dx.old dx.new }
 {
     if rows.count > 64 {
         return Err(Refusal::TooMany);
@@ -66,6 +66,7 @@ pub fn step(rows: Rows, n: usize, huber: f64) -> Result<[f64; 9], Refusal>
         table.sigma[k] = r.sigma;
         table.residual[k] = r.residual;
     }
-    let dx = round_step(table.first(count), n, huber)?;
-    Ok(first_of(n, dx))
+    let t = round_step(table.first(count), n, huber)?;
+    *dx = first_of(n, t);
+    Ok(())
 }

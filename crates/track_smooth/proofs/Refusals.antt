@@ -1,40 +1,25 @@
 -- The tests of why a call turns back, and what they tell. Assumes nothing.
 use Rattle.std.specs.Prelude.{Result, Ok, Err, ⊤}
 use mathlib.Core.Path.{◌≡◌, refl, sym, ◌∙◌, ap, ap₂}
-use mathlib.Core.Bool.{Bool, true, false, not, ◌&&◌, and-true}
+use mathlib.Core.Bool.{Bool, true, false, not, ◌&&◌}
 use mathlib.Core.List.{List, [], ◌∷◌, ◌++◌}
-use Prim.Native.Nat.{ℕ, zero, suc, ◌+◌, ◌-◌, ◌*◌, ◌≤◌, ◌<◌}
+use Prim.Native.Nat.{ℕ, ◌-◌, ◌*◌, ◌≤◌, ◌<◌}
 use native.Mathlib.Omega.{arith}
 use lib.Dec.{leb, ltb}
-use lib.ListN.{length, get_or, take}
-use lib.Seq.{take-suc}
-use Rattle.std.specs.List.{list_all}
-use Rattle.std.proofs.lemmas.List.Folds.{list_all-append}
-use lib.Ieee.{Float, nan, lt}
+use lib.ListN.{length}
 use borrow.Author.Tests.{lt-ltb, le-ltb, leb-true, ltb-true, le-leb, lt-leb}
-use Rattle.exact.specs.Float.{+0}
 use Rattle.numeric.specs.Real.{in_range}
 use Rattle.numeric.specs.Refusal.{number_of}
 use Rattle.numeric.specs.Rules.{Rule, rule, ruled}
 use Rattle.numeric.specs.declared.refusal.Refusal.{Refusal}
 use Rattle.numeric.specs.declared.refusal.Refusal.TheVariants.{TooMany, SettingOutOfRange, RecordOutOfRange, BadTrack}
-use Rattle.track_tridiagonal.specs.Tridiagonal.{each_below}
-use Rattle.track_tridiagonal.proofs.EachBelow.{each_next, each-stop, each_all, each_at, left-true, right-true}
+use Rattle.track_tridiagonal.proofs.EachBelow.{each_at, left-true, right-true}
 use Rattle.track_pass.specs.Input.{Measured, Trajectory, index_at, work_need}
 use Rattle.track_pass.specs.Steps.{Valid, Ready}
 use Rattle.track_smooth.specs.declared.Settings.{Settings}
 use Rattle.track_smooth.specs.Answer.{columns_ok, counts_ok, settings_ok, measured_ok, records_ok, sigmas_ok, indices_ok, track_ok, Tracked, Refused}
 use Rattle.track_smooth.specs.Steps.{track_checked}
 use Rattle.track_smooth.proofs.Finite.{origin-small}
-
--- ---- a test of each element
-
--- of the first n elements, and of their places
-pub all-below : {A : Type 0} (f : A → Bool) (v : List A) (d : A) (n : ℕ) → n ≤ length v → list_all f (take n v) ≡ each_below (λ k. f (get_or v k d)) n
-unfolding each_below
-all-below f v d zero h = refl
-all-below f v d (suc n) h =
-    rw (take-suc v n d h, list_all-append f (take n v) (get_or v n d ∷ []), all-below f v d n (omega (arith, h)), and-true (f (get_or v n d)))
 
 -- ---- tests together
 

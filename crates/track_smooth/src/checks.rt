@@ -31,12 +31,17 @@ fn allows(set: Settings) -> bool
     in_range(set.huber) & (set.iterations <= 50)
 }
 
-// Tells whether the first `count` floats are finite and at most 1e9 in magnitude.
+// Tells whether the first `count` floats are finite and at most 1e9 in magnitude. docs/DECISIONS.md has why no `all` tells it, here and below.
 fn are_in_range(v: &[f64], count: usize) -> bool
     requires { count ≤ length v.now }
     ensures { result ≡ in_range_below v.now count }
 {
-    v[..count].iter().all(|x| in_range(*x))
+    for k in 0..count {
+        if !in_range(v[k]) {
+            return false;
+        }
+    }
+    true
 }
 
 // Tells whether the first `count` floats are above 0.
@@ -44,7 +49,12 @@ fn are_above_zero(v: &[f64], count: usize) -> bool
     requires { count ≤ length v.now }
     ensures { result ≡ each_below (λ k. Ieee.lt +0 (get_or v.now k nan)) count }
 {
-    v[..count].iter().all(|x| 0.0 < *x)
+    for k in 0..count {
+        if !(0.0 < v[k]) {
+            return false;
+        }
+    }
+    true
 }
 
 // Tells whether the first `count` indices are below n.
@@ -52,7 +62,12 @@ fn are_below(v: &[usize], count: usize, n: usize) -> bool
     requires { count ≤ length v.now }
     ensures { result ≡ each_below (λ j. ltb (get_or v.now j 0) n) count }
 {
-    v[..count].iter().all(|k| *k < n)
+    for k in 0..count {
+        if v[k] >= n {
+            return false;
+        }
+    }
+    true
 }
 
 // Answers the first refusal that applies before the fit, with a result of `room` patterns and a work of `space`.

@@ -11,14 +11,17 @@ use numeric::refusal::Refusal;
 use numeric::vec3::Vec3;
 use records::record::{Observations, is_sound_observation};
 
-// Checks rule 4 for each counted observation.
+// Checks rule 4 for each counted observation. docs/DECISIONS.md has why no `all` does.
 pub(crate) fn all_sound_observations(o: Observations) -> bool
     requires { o.count ≤ 64 }
     ensures { result ≡ every sound_observation (counted_observations o) }
 {
-    o.observation[..o.count]
-        .iter()
-        .all(|x| is_sound_observation(*x))
+    for i in 0..o.count {
+        if !is_sound_observation(o.observation[i]) {
+            return false;
+        }
+    }
+    true
 }
 
 // Checks rule 3 of a fix.

@@ -20,7 +20,9 @@ pub fn columns_step(
     if !rows.fit(count) {
         return Err(Refusal::TooMany);
     }
-    step(rows.rows(count), unknowns, huber)
+    let mut dx = [0.0; 9];
+    step(rows.rows(count), unknowns, huber, &mut dx)?;
+    Ok(dx)
 }
 
 // Returns 0 and writes the patterns of the step to dx. On refusal, returns its number and changes nothing.

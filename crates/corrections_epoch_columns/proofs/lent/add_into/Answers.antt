@@ -1,21 +1,11 @@
 -- `corrections_epoch_columns::lent::add_into` meets its contract. Assumes nothing.
-use mathlib.Core.Path.{◌≡◌, sym, ◌∙◌}
+use mathlib.Core.Path.{◌≡◌}
 use Rattle.corrections_directory.specs.Directory.{block_capacity, directory_in, floats, lent_blocks}
 use Rattle.corrections_epoch.specs.AddEpoch.{epoch_placed}
-use Rattle.corrections_epoch.proofs.EpochLaws.{told-nothing, told_same}
+use Rattle.corrections_epoch.proofs.EpochLaws.{told_same}
 use Rattle.corrections_epoch_columns.specs.Columns.{columns_entry}
-use Rattle.corrections_epoch_columns.proofs.EpochLaws.{ranges-refused, given-refused, read-given}
+use Rattle.corrections_epoch_columns.proofs.EpochLaws.{placed-given}
 use Rattle.corrections_epoch_columns.proofs.lent.add_into.Goals as goal
-
-pub returns-then-ranges_lack : goal.returns-then-ranges_lack
-returns-then-ranges_lack c = let a = c.args in
-    let l = lent_blocks a.block_constellation.now a.block_svid.now a.block_band.now a.block_first.now a.block_samples.now (floats a.table_time.now) (floats a.table_metres.now) in
-    told-nothing _ a.blocks a.table_count l a.table_time.now a.table_metres.now (ranges-refused a.blocks a.table_count l a.time a.ranges (record { entry = a.base; exit = a.base }) (record { entry = a.rover; exit = a.rover }) a.max_gap a.max_correction (record { entry = a.corrected; exit = a.corrected }) a.states (sym c.ranges_lack.ensures ∙ c.if-ranges_lack.true))
-
-pub returns-then-given_lack : goal.returns-then-given_lack
-returns-then-given_lack c = let a = c.args in
-    let l = lent_blocks a.block_constellation.now a.block_svid.now a.block_band.now a.block_first.now a.block_samples.now (floats a.table_time.now) (floats a.table_metres.now) in
-    told-nothing _ a.blocks a.table_count l a.table_time.now a.table_metres.now (given-refused a.blocks a.table_count l a.time a.ranges (record { entry = a.base; exit = a.base }) (record { entry = a.rover; exit = a.rover }) a.max_gap a.max_correction (record { entry = a.corrected; exit = a.corrected }) a.states (sym c.given_lack.ensures ∙ c.if-given_lack.true))
 
 pub returns : goal.returns
 returns c = let a = c.args in
@@ -23,5 +13,5 @@ returns c = let a = c.args in
     let placed : epoch_placed a.blocks a.table_count (block_capacity l) (directory_in a.blocks a.table_count l) c.epoch_of-epoch.result c.states_given-satellites.result c.from.result c.from-2.result c.settings_of-settings.result
     ≡ columns_entry a.blocks a.table_count l a.time a.ranges a.states (record { entry = a.base; exit = a.base }) (record { entry = a.rover; exit = a.rover }) a.max_gap a.max_correction (record { entry = a.corrected; exit = a.corrected }) =
     rw (c.from.ensures, c.from-2.ensures, c.settings_of-settings.ensures)
-    (read-given a.blocks a.table_count l a.time a.ranges (record { entry = a.base; exit = a.base }) (record { entry = a.rover; exit = a.rover }) a.max_gap a.max_correction (record { entry = a.corrected; exit = a.corrected }) (sym c.ranges_lack.ensures ∙ c.if-ranges_lack.false, c.epoch_of-epoch.ensures) a.states _ (sym c.given_lack.ensures ∙ c.if-given_lack.false) c.states_given-satellites.ensures) in
+    (placed-given a.blocks a.table_count l a.time a.ranges (record { entry = a.base; exit = a.base }) (record { entry = a.rover; exit = a.rover }) a.max_gap a.max_correction (record { entry = a.corrected; exit = a.corrected }) c.epoch_of-epoch.ensures a.states _ c.states_given-satellites.ensures) in
     told_same a.table_time.now a.table_metres.now _ _ placed c.add_epoch.ensures

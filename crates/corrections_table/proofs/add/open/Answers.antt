@@ -1,9 +1,12 @@
 -- `corrections_table::add::open` meets its contract. Assumes nothing.
-use native.Mathlib.Omega.{arith}
-use native.Mathlib.Numerals.{add-one}
-use Prim.Native.Nat.{◌-◌}
-use Rattle.corrections_table.proofs.ColumnLaws.{opened-moved}
+use Rattle.corrections_table.proofs.ColumnLaws.{opening-start, opening-next, opening-end}
 use Rattle.corrections_table.proofs.add.open.Goals as goal
 
+pub loop-i-init : goal.loop-i-init
+loop-i-init g c = opening-start _ _ _ c.requires.0
+
+pub loop-i-preserved : goal.loop-i-preserved
+loop-i-preserved g c = opening-next c.loop-i.invariant _ c.index-d-i.is c.loop-i-test.true
+
 pub returns : goal.returns
-returns g c = rw (c.copy_within.ensures.after, add-one c.args.p) (opened-moved c.args.p (c.args.n - c.args.p) c.args.x c.args.d.now (omega (arith, c.requires)))
+returns g c = opening-end c.loop-i.invariant _ c.loop-i-test.false

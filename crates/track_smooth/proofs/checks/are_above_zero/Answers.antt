@@ -1,18 +1,20 @@
 -- `track_smooth::checks::are_above_zero` meets its contract. Assumes nothing.
-use borrow.Author.Rules.{rules}
-use borrow.Author.Tests.{tests}
-use mathlib.Core.Path.{◌∙◌}
-use lib.Dec.{ltb}
+use mathlib.Core.Bool.{true}
+use native.Mathlib.Omega.{arith}
+use lib.ListN.{get_or}
 use lib.Ieee.{nan, lt}
-use lib.ListN.{take}
 use Rattle.exact.specs.Float.{+0}
-use Rattle.numeric.specs.Real.{in_range}
-use Rattle.std.proofs.lemmas.Iterator.{YieldsList-from_slice}
-use Rattle.std.proofs.lemmas.Iterator.Search.{all_from_yields_List}
-use Rattle.track_smooth.proofs.Refusals.{all-below}
+use Rattle.track_tridiagonal.proofs.EachBelow.{each_none, each_next, each-stop, each_all}
 use Rattle.track_smooth.proofs.checks.are_above_zero.Goals as goal
 
+pub loop-k-init : goal.loop-k-init
+loop-k-init c = (omega arith, each_none _)
+
+pub returns-then-not-v-k : goal.returns-then-not-v-k
+returns-then-not-v-k c = each-stop (λ k. lt +0 (get_or c.args.v.now k nan)) c.loop-k.k c.args.count c.loop-k.invariant.1 c.loop-k-test.true c.if-not-v-k.true
+
+pub loop-k-preserved : goal.loop-k-preserved
+loop-k-preserved c = (omega arith, each_next (λ k. lt +0 (get_or c.args.v.now k nan)) c.loop-k.k true c.loop-k.invariant.1 c.if-not-v-k.false)
+
 pub returns : goal.returns
-returns c =
-    all_from_yields_List (lt +0) _ _ _ c.all.ensures.ran (YieldsList-from_slice (take c.args.count c.args.v.now) (cc)) (λ x b q k. search (rules, tests))
-    ∙ all-below (lt +0) c.args.v.now nan c.args.count c.requires
+returns c = each_all (λ k. lt +0 (get_or c.args.v.now k nan)) c.loop-k.k c.args.count c.loop-k.invariant.1 (omega (arith, c.loop-k-test.false, c.loop-k.invariant.0))

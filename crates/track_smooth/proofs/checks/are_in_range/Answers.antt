@@ -1,18 +1,21 @@
 -- `track_smooth::checks::are_in_range` meets its contract. Assumes nothing.
-use borrow.Author.Rules.{rules}
-use borrow.Author.Tests.{tests}
-use mathlib.Core.Path.{◌∙◌}
-use lib.Dec.{ltb}
-use lib.Ieee.{nan, lt}
-use lib.ListN.{take}
-use Rattle.exact.specs.Float.{+0}
+use mathlib.Core.Path.{sym, ◌∙◌}
+use mathlib.Core.Bool.{true}
+use native.Mathlib.Omega.{arith}
+use lib.ListN.{get_or}
+use lib.Ieee.{nan}
 use Rattle.numeric.specs.Real.{in_range}
-use Rattle.std.proofs.lemmas.Iterator.{YieldsList-from_slice}
-use Rattle.std.proofs.lemmas.Iterator.Search.{all_from_yields_List}
-use Rattle.track_smooth.proofs.Refusals.{all-below}
+use Rattle.track_tridiagonal.proofs.EachBelow.{each_none, each_next, each-stop, each_all}
 use Rattle.track_smooth.proofs.checks.are_in_range.Goals as goal
 
+pub loop-k-init : goal.loop-k-init
+loop-k-init c = (omega arith, each_none _)
+
+pub returns-then-not-in_range : goal.returns-then-not-in_range
+returns-then-not-in_range c = each-stop (λ k. in_range (get_or c.args.v.now k nan)) c.loop-k.k c.args.count c.loop-k.invariant.1 c.loop-k-test.true (sym c.in_range.ensures ∙ c.if-not-in_range.true)
+
+pub loop-k-preserved : goal.loop-k-preserved
+loop-k-preserved c = (omega arith, each_next (λ k. in_range (get_or c.args.v.now k nan)) c.loop-k.k true c.loop-k.invariant.1 (sym c.in_range.ensures ∙ c.if-not-in_range.false))
+
 pub returns : goal.returns
-returns c =
-    all_from_yields_List in_range _ _ _ c.all.ensures.ran (YieldsList-from_slice (take c.args.count c.args.v.now) (cc)) (λ x b q k. search (rules, tests))
-    ∙ all-below in_range c.args.v.now nan c.args.count c.requires
+returns c = each_all (λ k. in_range (get_or c.args.v.now k nan)) c.loop-k.k c.args.count c.loop-k.invariant.1 (omega (arith, c.loop-k-test.false, c.loop-k.invariant.0))
