@@ -34,8 +34,8 @@ use Rattle.corrections_epoch.specs.declared.record.States.{States}
 use Rattle.corrections_epoch.specs.declared.record.Settings.{Settings}
 use Rattle.corrections_epoch_columns.specs.Epoch.{LentBools, range_at, base_epoch_of, states_in, records_short, entry_in, settings_of}
 use Rattle.corrections_epoch_columns.specs.Short.{ranges_short, states_short}
-use Rattle.corrections_epoch_columns.specs.Steps.{CountsWritten, EpochRead, GivesEpoch, GivesStates}
-use Rattle.corrections_epoch_columns.specs.Columns.{columns_entry, state_held}
+use Rattle.corrections_epoch_columns.specs.Steps.{CountsWritten, EpochRead, GivesEpoch, GivesStates, StatesRead}
+use Rattle.corrections_epoch_columns.specs.Columns.{columns_entry, ranges_held, ranges_lack, state_held, states_lack}
 use Rattle.corrections_epoch_columns.specs.declared.columns.RangeColumns.{RangeColumns}
 use Rattle.corrections_epoch_columns.specs.declared.columns.StateColumns.{StateColumns}
 use Rattle.lists.specs.Memory.{before, LentFloats}
@@ -239,6 +239,29 @@ module _ (m n : ℕ) (l : Blocks) (time : Float) (k : ℕ) (rc rv rb : List ℕ)
       go false false p q = let h = sr.1 q in entry-added e s (by_both k rc rv rb rp (cond present j 0) sc sv sb sf p q) (er.1 p) h.0 h.1
 
 -- ---- the outcome by the structs of columns
+module _ (m n : ℕ) (l : Blocks) (time : Float) (r : RangeColumns) (base rover : LentFloats) (gap max : Float) (on : LentBools) where
+  -- ranges or states whose columns lack are refused by 2
+  pub ranges-refused : (s : Option StateColumns) → ranges_lack r ≡ true → refused_in TooMany ≡ columns_entry m n l time r s base rover gap max on
+  ranges-refused None e = entry-unreadable m n l time r.count _ _ _ _ false 0 [] [] [] [] _ _ _ (by-ranges r.count _ _ _ _ 0 [] [] [] [] e)
+  ranges-refused (Some c) e = entry-unreadable m n l time r.count _ _ _ _ true c.count _ _ _ _ _ _ _ (by-ranges r.count _ _ _ _ c.count _ _ _ _ e)
+
+  pub states-refused : (c : StateColumns) → states_lack c ≡ true → refused_in TooMany ≡ columns_entry m n l time r (Some c) base rover gap max on
+  states-refused c e = entry-unreadable m n l time r.count _ _ _ _ true c.count _ _ _ _ _ _ _ (by-states r.count _ _ _ _ c.count _ _ _ _ e)
+
+  -- an epoch that is read from columns that do not lack has their outcome, with the states beside it
+  module _ {e : BaseEpoch} (given : (ranges_lack r ≡ false) × EpochRead time r.count (ranges_held r) e) where
+    pub read-none : epoch_placed m n (block_capacity l) (directory_in m n l) e None (vector_at (before base) 0) (vector_at (before rover) 0) (settings_of gap max (before on))
+        ≡ columns_entry m n l time r None base rover gap max on
+    unfolding states_short
+    read-none = entry-added m n l time r.count _ _ _ _ false 0 [] [] [] [] _ _ _ e None (by_both r.count _ _ _ _ 0 [] [] [] [] given.0 refl) given.1 refl refl
+
+    pub read-some : (c : StateColumns) {s : States} → (states_lack c ≡ false) × StatesRead c.count (places (state_held c) c.count) s
+        → epoch_placed m n (block_capacity l) (directory_in m n l) e (Some s) (vector_at (before base) 0) (vector_at (before rover) 0) (settings_of gap max (before on))
+        ≡ columns_entry m n l time r (Some c) base rover gap max on
+    read-some c {s} q =
+        entry-added m n l time r.count _ _ _ _ true c.count _ _ _ _ _ _ _ e (Some s) (by_both r.count _ _ _ _ c.count _ _ _ _ given.0 q.0) given.1 q.1.count-is
+        (ap (λ (i : ℕ). take i s.states) q.1.count-is ∙ q.1.states-are ∙ sym (places-all (state_held c) c.count))
+
 module _ (m n : ℕ) (l : Blocks) (time : Float) (r : RangeColumns) (base rover : LentFloats) (gap max : Float) (on : LentBools) {e : BaseEpoch} (er : GivesEpoch time r e) where
   -- the epoch and the states as they are given, added
   pub placed-given : (o : Option StateColumns) (s : Option States) → GivesStates o s
