@@ -239,6 +239,12 @@ module _ (m n : ℕ) (l : Blocks) (time : Float) (k : ℕ) (rc rv rb : List ℕ)
       go false false p q = let h = sr.1 q in entry-added e s (by_both k rc rv rb rp (cond present j 0) sc sv sb sf p q) (er.1 p) h.0 h.1
 
 -- ---- the outcome by the structs of columns
+
+-- the states that are read are those of the columns
+states-same : (c : StateColumns) {s : States} → StatesRead c.count (places (state_held c) c.count) s
+    → states_of (Some s) ≡ states_of (states_in true c.count c.constellation.now c.svid.now c.band.now c.floats.now)
+states-same c {s} h = ap (λ (i : ℕ). take i s.states) h.count-is ∙ h.states-are ∙ sym (places-all (state_held c) c.count)
+
 module _ (m n : ℕ) (l : Blocks) (time : Float) (r : RangeColumns) (base rover : LentFloats) (gap max : Float) (on : LentBools) where
   -- ranges or states whose columns lack are refused by 2
   pub ranges-refused : (s : Option StateColumns) → ranges_lack r ≡ true → refused_in TooMany ≡ columns_entry m n l time r s base rover gap max on
@@ -248,7 +254,7 @@ module _ (m n : ℕ) (l : Blocks) (time : Float) (r : RangeColumns) (base rover 
   pub states-refused : (c : StateColumns) → states_lack c ≡ true → refused_in TooMany ≡ columns_entry m n l time r (Some c) base rover gap max on
   states-refused c e = entry-unreadable m n l time r.count _ _ _ _ true c.count _ _ _ _ _ _ _ (by-states r.count _ _ _ _ c.count _ _ _ _ e)
 
-  -- an epoch that is read from columns that do not lack has their outcome, with the states beside it
+  -- an epoch that is read from columns that do not lack, with the states beside it, has the outcome of the columns
   module _ {e : BaseEpoch} (given : (ranges_lack r ≡ false) × EpochRead time r.count (ranges_held r) e) where
     pub read-none : epoch_placed m n (block_capacity l) (directory_in m n l) e None (vector_at (before base) 0) (vector_at (before rover) 0) (settings_of gap max (before on))
         ≡ columns_entry m n l time r None base rover gap max on
@@ -259,8 +265,7 @@ module _ (m n : ℕ) (l : Blocks) (time : Float) (r : RangeColumns) (base rover 
         → epoch_placed m n (block_capacity l) (directory_in m n l) e (Some s) (vector_at (before base) 0) (vector_at (before rover) 0) (settings_of gap max (before on))
         ≡ columns_entry m n l time r (Some c) base rover gap max on
     read-some c {s} q =
-        entry-added m n l time r.count _ _ _ _ true c.count _ _ _ _ _ _ _ e (Some s) (by_both r.count _ _ _ _ c.count _ _ _ _ given.0 q.0) given.1 q.1.count-is
-        (ap (λ (i : ℕ). take i s.states) q.1.count-is ∙ q.1.states-are ∙ sym (places-all (state_held c) c.count))
+        entry-added m n l time r.count _ _ _ _ true c.count _ _ _ _ _ _ _ e (Some s) (by_both r.count _ _ _ _ c.count _ _ _ _ given.0 q.0) given.1 q.1.count-is (states-same c q.1)
 
 module _ (m n : ℕ) (l : Blocks) (time : Float) (r : RangeColumns) (base rover : LentFloats) (gap max : Float) (on : LentBools) {e : BaseEpoch} (er : GivesEpoch time r e) where
   -- the epoch and the states as they are given, added
@@ -271,7 +276,7 @@ module _ (m n : ℕ) (l : Blocks) (time : Float) (r : RangeColumns) (base rover 
   placed-given None s q = rw q (entry-given m n l time r.count _ _ _ _ false 0 [] [] [] [] _ _ _ e None er (λ h. never h, λ h. (refl, refl)))
   placed-given (Some c) None q = absurd q
   placed-given (Some c) (Some s) q = entry-given m n l time r.count _ _ _ _ true c.count _ _ _ _ _ _ _ e (Some s) er
-      (q.0, λ h. let p = q.1 h in (p.count-is, ap (λ (i : ℕ). take i s.states) p.count-is ∙ p.states-are ∙ sym (places-all (state_held c) c.count)))
+      (q.0, λ h. let p = q.1 h in (p.count-is, states-same c p))
 
 -- states are not read under the mark that there are none
 unread : (m n : ℕ) (l : Blocks) (time : Float) (k : ℕ) (rc rv rb : List ℕ) (rp : List Float) (j : ℕ) (sc sv sb : List ℕ) (sf : List Float) (base rover : Vec3) (set : Settings)
